@@ -1,0 +1,10 @@
+pub mod Tests
+pub mod Lists
+pub mod Distinct
+pub mod Numbers
+pub mod Hooks
+pub mod Machine
+pub mod Zones
+pub mod Check
+pub mod Published
+pub mod ConsoleChecks

@@ -1,0 +1,141 @@
+-- Laws of the words for lists.
+-- Assumes nothing.
+use mathlib.Core.Path.{_≡_, refl, sym, _∙_, ap, ap₂, subst}
+use mathlib.Core.Logic.{_⊎_, inl, inr, ⊎-elim}
+use mathlib.Core.Bool.{Bool, true, false, not, cond, _&&_, _||_, true≢false}
+use mathlib.Core.List.{List, [], _∷_, _++_, map, List·Memᴰ, List·Memᴰ·head, List·Memᴰ·tail, List·Memᴰ·cases-cons, Memᴰ·append-left, Memᴰ·append-right}
+use mathlib.Core.Option.{Option, none, some}
+use Prim.Native.Nat.{ℕ, zero, suc, _+_, _-_, _≤_, _<_}
+use native.Mathlib.Omega.{arith}
+use native.Mathlib.Decide.{ℕ-discrete}
+use lib.Dec.{eqb, eqb-refl}
+use lib.ListN.{length, getElem?}
+use borrow.Author.Tests.{eqb-true, eq-eqb}
+use Rattle.meaning.specs.Lists.{every, elem, sameList, insertAt, next, first, upTo, flat}
+use Rattle.meaning.proofs.Tests.{and-left, and-right, and-both, or-left, or-right}
+
+-- ── membership ─────────────────────────────────────────────────────────────────────────────────
+
+module _ {A B : Type 0} where
+  pub mem-map : (f : A → B) {a : A} {l : List A} → List·Memᴰ a l → List·Memᴰ (f a) (map f l)
+  mem-map f (List·Memᴰ·head e) = List·Memᴰ·head (ap f e)
+  mem-map f (List·Memᴰ·tail h) = List·Memᴰ·tail (mem-map f h)
+
+  pub mem-map-inv : (f : A → B) {b : B} (l : List A) → List·Memᴰ b (map f l) → (a : A) × List·Memᴰ a l × (b ≡ f a)
+  mem-map-inv f (x ∷ l) (List·Memᴰ·head e) = (x, List·Memᴰ·head refl, e)
+  mem-map-inv f (x ∷ l) (List·Memᴰ·tail h) = let r = mem-map-inv f l h in (r .0, List·Memᴰ·tail (r .1), r .2)
+
+  pub mem-flat : (f : A → List B) {a : A} {b : B} {l : List A} → List·Memᴰ a l → List·Memᴰ b (f a) → List·Memᴰ b (flat f l)
+  mem-flat f {b = b} (List·Memᴰ·head {xs = xs} e) k = Memᴰ·append-left _ (subst (λ (x : A). List·Memᴰ b (f x)) e k)
+  mem-flat f (List·Memᴰ·tail {x = x} h) k = Memᴰ·append-right (f x) (mem-flat f h k)
+
+  pub map-insertAt : (f : A → B) (k : ℕ) (x : A) (xs : List A) → map f (insertAt k x xs) ≡ insertAt k (f x) (map f xs)
+  map-insertAt f zero x xs = refl
+  map-insertAt f (suc k) x [] = refl
+  map-insertAt f (suc k) x (y ∷ ys) = ap (λ (l : List B). f y ∷ l) (map-insertAt f k x ys)
+
+  pub map-append : (f : A → B) (l r : List A) → map f (l ++ r) ≡ map f l ++ map f r
+  map-append f [] r = refl
+  map-append f (x ∷ l) r = ap (λ (y : List B). f x ∷ y) (map-append f l r)
+
+module _ {A : Type 0} where
+  pub mem-insertAt : {a x : A} (k : ℕ) (l : List A) → List·Memᴰ a (insertAt k x l) → (a ≡ x) ⊎ List·Memᴰ a l
+  mem-insertAt zero l (List·Memᴰ·head e) = inl e
+  mem-insertAt zero l (List·Memᴰ·tail h) = inr h
+  mem-insertAt (suc k) [] (List·Memᴰ·head e) = inl e
+  mem-insertAt (suc k) [] (List·Memᴰ·tail h) = inr h
+  mem-insertAt (suc k) (y ∷ l) (List·Memᴰ·head e) = inr (List·Memᴰ·head e)
+  mem-insertAt (suc k) (y ∷ l) (List·Memᴰ·tail h) = ⊎-elim (λ e. inl e) (λ g. inr (List·Memᴰ·tail g)) (mem-insertAt k l h)
+
+  pub mem-at : {a : A} {l : List A} → List·Memᴰ a l → (k : ℕ) × (getElem? l k ≡ some a)
+  mem-at (List·Memᴰ·head e) = (0, ap some (sym e))
+  mem-at (List·Memᴰ·tail h) = let r = mem-at h in (suc (r .0), r .1)
+
+  pub at-mem : (a : A) (l : List A) (k : ℕ) → getElem? l k ≡ some a → List·Memᴰ a l
+  at-mem a [] k e = absurd (let z : _≡_ {A = ℕ} 0 1 = cc in omega arith)
+  at-mem a (x ∷ l) zero e = let q : a ≡ x = cc in List·Memᴰ·head q
+  at-mem a (x ∷ l) (suc k) e = List·Memᴰ·tail (at-mem a l k e)
+
+  pub nth-some : (l : List A) (k : ℕ) → k < length l → (a : A) × (getElem? l k ≡ some a)
+  nth-some [] k h = absurd (omega arith)
+  nth-some (x ∷ l) zero h = (x, refl)
+  nth-some (x ∷ l) (suc k) h = nth-some l k (omega arith)
+
+  -- the test holds of every element exactly if it holds of each
+  pub every-mem : (f : A → Bool) (l : List A) → every f l ≡ true → (a : A) → List·Memᴰ a l → f a ≡ true
+  every-mem f (x ∷ l) t a (List·Memᴰ·head e) = ap f e ∙ and-left (f x) (every f l) t
+  every-mem f (x ∷ l) t a (List·Memᴰ·tail h) = every-mem f l (and-right (f x) (every f l) t) a h
+
+  pub mem-every : (f : A → Bool) (l : List A) → ((a : A) → List·Memᴰ a l → f a ≡ true) → every f l ≡ true
+  mem-every f [] h = refl
+  mem-every f (x ∷ l) h = and-both (f x) (every f l) (h x (List·Memᴰ·head refl)) (mem-every f l (λ a k. h a (List·Memᴰ·tail k)))
+
+-- ── the first ──────────────────────────────────────────────────────────────────────────────────
+
+next-zero : (n : ℕ) → next n ≡ 0 → n ≡ 0
+next-zero zero e = refl
+next-zero (suc n) e = absurd (omega arith)
+
+next-one : (n : ℕ) → next n ≡ 1 → ⊥
+next-one zero e = omega arith
+next-one (suc n) e = omega arith
+
+next-more : (n i : ℕ) → next n ≡ suc (suc i) → n ≡ suc i
+next-more zero i e = absurd (omega arith)
+next-more (suc n) i e = omega arith
+
+module _ {A : Type 0} where
+  abbrev pub Found : (A → Bool) → List A → ℕ → Type 0
+  Found f l k = (a : A) × (getElem? l k ≡ some a) × (f a ≡ true)
+
+  -- the first is one at which the test holds
+  pub first-at : (f : A → Bool) (l : List A) (k : ℕ) → first f l ≡ suc k → Found f l k
+  first-at f [] k e = absurd (omega arith)
+  first-at f (x ∷ l) k e = go (f x) refl k e (first-at f l)
+    where
+      go : (b : Bool) → f x ≡ b → (i : ℕ) → cond b 1 (next (first f l)) ≡ suc i → ((j : ℕ) → first f l ≡ suc j → Found f l j) → Found f (x ∷ l) i
+      go true q zero h ih = (x, refl, q)
+      go true q (suc i) h ih = absurd (omega arith)
+      go false q zero h ih = absurd (next-one (first f l) h)
+      go false q (suc i) h ih = ih i (next-more (first f l) i h)
+
+  -- no first: none at all
+  pub first-none : (f : A → Bool) (l : List A) → first f l ≡ 0 → (a : A) → List·Memᴰ a l → f a ≡ false
+  first-none f (x ∷ l) e a h = go (f x) refl e h (first-none f l)
+    where
+      go : (b : Bool) → f x ≡ b → cond b 1 (next (first f l)) ≡ 0 → List·Memᴰ a (x ∷ l) → (first f l ≡ 0 → (y : A) → List·Memᴰ y l → f y ≡ false) → f a ≡ false
+      go true q z w ih = absurd (omega arith)
+      go false q z w ih = ⊎-elim (λ (r : a ≡ x). ap f r ∙ q) (λ r. ih (next-zero _ z) a r) (List·Memᴰ·cases-cons w)
+
+-- ── numbers in a list ──────────────────────────────────────────────────────────────────────────
+
+pub mem-upTo : (n k p : ℕ) → k ≤ p → p ≤ k + n → List·Memᴰ p (upTo k n)
+mem-upTo zero k p h g = let e : p ≡ k = omega arith in List·Memᴰ·head e
+mem-upTo (suc n) k p h g = go (mem-upTo n (suc k) p) (ℕ-discrete p k)
+  where
+    go : (suc k ≤ p → p ≤ suc k + n → List·Memᴰ p (upTo (suc k) n)) → Dec (p ≡ k) → List·Memᴰ p (upTo k (suc n))
+    go ih (yes e) = List·Memᴰ·head e
+    go ih (no d) = List·Memᴰ·tail (ih (omega arith) (omega arith))
+
+pub sameList-refl : (l : List ℕ) → sameList l l ≡ true
+sameList-refl [] = refl
+sameList-refl (x ∷ xs) = and-both (eqb x x) (sameList xs xs) (eq-eqb x x refl) (sameList-refl xs)
+
+pub sameList-eq : (l r : List ℕ) → sameList l r ≡ true → l ≡ r
+sameList-eq [] [] e = refl
+sameList-eq [] (y ∷ r) e = absurd (true≢false (sym e))
+sameList-eq (x ∷ l) [] e = absurd (true≢false (sym e))
+sameList-eq (x ∷ l) (y ∷ r) e =
+    ap₂ (λ (a : ℕ) (b : List ℕ). a ∷ b) (eqb-true x y (and-left (eqb x y) (sameList l r) e)) (sameList-eq l r (and-right (eqb x y) (sameList l r) e))
+
+-- a number that stands neither in the list nor in its new place
+pub elem-insertAt : (u k t : ℕ) (o : List ℕ) → elem u (insertAt k t o) ≡ (eqb u t || elem u o)
+elem-insertAt u zero t o = refl
+elem-insertAt u (suc k) t [] = refl
+elem-insertAt u (suc k) t (x ∷ o) = ap (λ (b : Bool). eqb u x || b) (elem-insertAt u k t o) ∙ swap (eqb u x) (eqb u t) (elem u o)
+  where
+    swap : (a b c : Bool) → (a || (b || c)) ≡ (b || (a || c))
+    swap true true c = refl
+    swap true false c = refl
+    swap false true c = refl
+    swap false false c = refl

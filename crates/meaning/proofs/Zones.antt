@@ -1,0 +1,5 @@
+pub mod Tightest
+pub mod Changes
+pub mod Home
+pub mod Listed
+pub mod OnePlace

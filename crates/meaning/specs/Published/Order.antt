@@ -1,0 +1,58 @@
+-- 000's order of the ready queue: who is ahead of whom, and the sorted queue.
+-- Assumes nothing.
+use mathlib.Core.Path.{_≡_}
+use mathlib.Core.Bool.{Bool, true, _&&_, _||_}
+use mathlib.Core.List.{List, [], _∷_, List·Memᴰ}
+use Prim.Native.Nat.{ℕ, _+_, _≤_}
+use lib.Dec.{ltb, eqb}
+use lib.ListN.{length}
+use Rattle.meaning.specs.Model.{Policy, fps, edf, Task, Location, Model, taskAt}
+use Rattle.meaning.specs.Machine.State.{Job}
+
+-- 000, Definition 6: "P_i > P_j ⟺ d_i < d_j ∨ (d_i = d_j ∧ i > j)", the time left d being D minus age; FPS: the larger priority
+unfoldable pub aheadBy : Policy → Task → Task → Job → Job → Bool
+aheadBy fps t u i j = ltb (u .prio) (t .prio)
+aheadBy edf t u i j =
+    ltb (t .D + j .age) (u .D + i .age) || (eqb (t .D + j .age) (u .D + i .age) && ltb (j .task) (i .task))
+
+-- 000, Definition 6: "the priority P_i of task t_i is greater than the priority P_j of task t_j", by the model's policy
+abbrev pub ahead : Model → Job → Job → Bool
+ahead m i j = aheadBy (m .policy) (taskAt m (i .task)) (taskAt m (j .task)) i j
+
+-- 000: "sorted": each element is ahead of all those behind it
+module _ {A : Type 0} where
+  abbrev pub InOrder : (A → A → Bool) → List A → Type 0
+  InOrder b [] = Unit
+  InOrder b (x ∷ l) = ((y : A) → List·Memᴰ y l → b x y ≡ true) × InOrder b l
+
+-- 000: "sorted according to the scheduling policy": the queue stands in order
+abbrev pub Stands : Model → List Job → Type 0
+Stands m q = InOrder (ahead m) q
+
+-- 000: "Sch(q) is a function that returns the ready queue sorted according to the scheduling policy": r is Sch(q)
+pub record IsSch (m : Model) (q r : List Job) : Type 0 where
+  pub all : (j : Job) → List·Memᴰ j q → List·Memᴰ j r
+  pub only : (j : Job) → List·Memᴰ j r → List·Memᴰ j q
+  pub sorted : Stands m r
+
+-- 000, Definition 6: "strictly ordered task indices": t is the number of a task of the model
+pub record TaskOf (m : Model) (t : ℕ) : Type 0 where
+  pub from : 1 ≤ t
+  pub upto : t ≤ length (m .tasks)
+
+-- 000: "q = [t_0(c_0, d_0), …, t_n(c_n, d_n)]": every job of the queue is of a task of the model
+abbrev pub TasksOf : Model → List Job → Type 0
+TasksOf m q = (j : Job) → List·Memᴰ j q → TaskOf m (j .task)
+
+-- 000, Definition 1: "M : L ↪ T is a function annotating locations with tasks": a location's task is 0 or a task of the model
+abbrev pub Annotated : Model → Type 0
+Annotated m = (l : Location) → List·Memᴰ l (m .locations) → l .task ≤ length (m .tasks)
+
+-- 000: "sorted according to the scheduling policy": the policy tells any two tasks apart; FPS: no two of the model have one priority
+abbrev pub RankedBy : Policy → Model → Type 0
+RankedBy fps m = (t u : ℕ) → TaskOf m t → TaskOf m u → taskAt m t .prio ≡ taskAt m u .prio → t ≡ u
+RankedBy edf m = Unit
+
+-- 000: "a scheduling strategy Sch": the same of the model's own policy
+abbrev pub Ranked : Model → Type 0
+Ranked m = RankedBy (m .policy) m

@@ -1,3 +1,4 @@
 pub mod Sorted
 pub mod Order
 pub mod Delay
+pub mod Left

@@ -23,6 +23,7 @@ modelA = record {
   edges = record { from = 1; to = 1; guard = record { i = 0; j = 1; c = negsuc 4 } ∷ []; resets = 1 ∷ [] } ∷ [];
 }
 
+-- "BD (i, j, c)"
 abbrev pub bound : ℕ → ℕ → ℤ → Bound
 bound i j c = record { i = i; j = j; c = c }
 
@@ -63,9 +64,11 @@ twoTasks p c d r c′ d′ r′ = record {
   edges = record { from = 1; to = 2; guard = []; resets = [] } ∷ [];
 }
 
+-- a job: "task, done, age"
 abbrev pub job : ℕ → ℕ → ℕ → Job
 job t d a = record { task = t; done = d; age = a }
 
+-- a state: "location, clocks", queue
 abbrev pub at : ℕ → List ℕ → List Job → State
 at l c q = record { location = l; clocks = c; queue = q }
 

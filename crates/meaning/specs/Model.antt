@@ -52,6 +52,7 @@ pub record Model : Type 0 where
 abbrev pub noTask : Task
 noTask = record { C = 0; D = 0; prio = 0 }
 
+-- a location that the model lacks releases nothing and has no limits
 abbrev pub noLocation : Location
 noLocation = record { task = 0; limits = [] }
 
@@ -59,6 +60,7 @@ noLocation = record { task = 0; limits = [] }
 abbrev pub taskAt : Model → ℕ → Task
 taskAt m t = nth1D (m .tasks) t noTask
 
+-- location l, "1 to 16"
 abbrev pub locationAt : Model → ℕ → Location
 locationAt m l = nth1D (m .locations) l noLocation
 

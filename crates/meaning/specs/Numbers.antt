@@ -5,11 +5,12 @@ use Prim.Native.Nat.{ℕ, suc, _+_}
 use lib.Dec.{leb}
 use lib.IntN.{ℤ, pos, negsuc}
 
--- "where the range goes below 0": a signed number is over − under, and one of the two is 0
+-- "where the range goes below 0": a signed number is over − under, and one of the two is 0; how far it goes above 0
 abbrev pub over : ℤ → ℕ
 over (pos n) = n
 over (negsuc n) = 0
 
+-- how far the number goes below 0
 abbrev pub under : ℤ → ℕ
 under (pos n) = 0
 under (negsuc n) = suc n

@@ -88,6 +88,7 @@ pub record BreaksZone (z : Zone) (i j : ℕ) (t : State) : Type 0 where
   pub column : bound .j ≡ j
   pub broken : boundTest (vars t) bound ≡ false
 
+-- "those that break the bound named", of the claimed zone, if there is one
 abbrev pub Breaks : Option Zone → ℕ → ℕ → State → Type 0
 Breaks none i j t = ⊥
 Breaks (some z) i j t = BreaksZone z i j t

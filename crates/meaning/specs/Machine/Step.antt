@@ -27,6 +27,7 @@ abbrev pub edgeAllowed : Model → State → Option Edge → Bool
 edgeAllowed m s none = false
 edgeAllowed m s (some e) = leavesAt e (s .location) && guardTest m s e
 
+-- "Tick: allowed when", "Edge: allowed when": the edge by "file order"
 abbrev pub allowed : Model → State → Event → Bool
 allowed m s tick = tickAllowed m s
 allowed m s (edge k) = edgeAllowed m s (nth1 (m .edges) k)
@@ -40,6 +41,7 @@ judged s (suc k) = missed s (suc k)
 abbrev pub moved : Model → State → Edge → Outcome
 moved m s e = cond (overflowsAny m (released m e) (order (s .queue))) overflow (went (entered m s e))
 
+-- the same of an edge by its number: one that "isn't in the model" is refused
 abbrev pub movedBy : Model → State → Option Edge → Outcome
 movedBy m s none = refused
 movedBy m s (some e) = moved m s e

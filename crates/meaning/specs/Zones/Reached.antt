@@ -19,9 +19,11 @@ pub record Home : Type 0 where
   pub location : ℕ
   pub order : List ℕ
 
+-- those of a state
 abbrev pub homeOf : State → Home
 homeOf s = record { location = s .location; order = order (s .queue) }
 
+-- those of a zone
 abbrev pub homeOfZone : Zone → Home
 homeOfZone z = record { location = z .location; order = z .order }
 

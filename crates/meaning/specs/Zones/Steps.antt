@@ -58,6 +58,7 @@ eventOf (byEdge k ps) = edge k
 abbrev pub placeTaken : Model → List ℕ → List Job → List ℕ
 placeTaken m ts q = cond (overflowsAny m ts (order q)) [] (positions m ts q)
 
+-- the release takes this place, at an edge "in the model"
 abbrev pub takenBy : Model → State → List ℕ → Option Edge → Bool
 takenBy m s ps none = false
 takenBy m s ps (some e) = sameList (placeTaken m (released m e) (s .queue)) ps

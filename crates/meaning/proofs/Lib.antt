@@ -6,5 +6,6 @@ pub mod Hooks
 pub mod Machine
 pub mod Zones
 pub mod Check
+pub mod Text
 pub mod Published
 pub mod ConsoleChecks

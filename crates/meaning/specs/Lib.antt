@@ -4,5 +4,6 @@ pub mod Model
 pub mod Machine
 pub mod Zones
 pub mod Check
+pub mod Text
 pub mod Published
 pub mod ConsoleChecks

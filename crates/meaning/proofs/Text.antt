@@ -1,0 +1,25 @@
+-- The laws and theorems of the texts.
+-- Assumes nothing.
+pub mod Choices
+pub mod NumeralLaws
+pub mod NumeralRound
+pub mod NumeralSmall
+pub mod WriteLaws
+pub mod Places
+pub mod LineLaws
+pub mod RecordLaws
+pub mod RecordParts
+pub mod Collects
+pub mod Keyed
+pub mod ModelCells
+pub mod ModelLaws
+pub mod ModelShape
+pub mod ModelDecode
+pub mod ModelRight
+pub mod ModelEncode
+pub mod ModelProper
+pub mod ModelRising
+pub mod ModelWhole
+pub mod ModelLoop
+pub mod ModelTheorems
+pub mod Examples

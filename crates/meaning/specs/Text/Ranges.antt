@@ -1,0 +1,31 @@
+-- The ends of document 01's ranges, each by its name. Where a range moves, its line here moves and no other definition.
+-- Assumes nothing.
+use Prim.Native.Nat.{ℕ}
+
+-- refusal 1: "over 65,535 bytes"
+abbrev pub textMost : ℕ
+textMost = 65535
+
+-- CK: "clocks, 0 to 4"
+abbrev pub clocksMost : ℕ
+clocksMost = 4
+
+-- TK: "C and D, 1 to 10,000"; IV: "limit 0 to 10,000"; GU: "c from −10,000 to 10,000"
+abbrev pub timeMost : ℕ
+timeMost = 10000
+
+-- TK: "priority 0 to 6"
+abbrev pub prioMost : ℕ
+prioMost = 6
+
+-- TK: "1 to 6" of them
+abbrev pub tasksMost : ℕ
+tasksMost = 6
+
+-- LO: "1 to 16" of them
+abbrev pub locationsMost : ℕ
+locationsMost = 16
+
+-- ED: "0 to 32" of them
+abbrev pub edgesMost : ℕ
+edgesMost = 32

@@ -4,9 +4,9 @@ use Prim.Native.Nat.{ℕ}
 use mathlib.Core.List.{List, [], _∷_}
 use mathlib.Core.Option.{Option, none, some}
 use mathlib.Core.Path.{_≡_, refl}
-use lib.IntN.{negsuc}
 use borrow.Author.Tests.{ne-eqb}
-use Rattle.meaning.specs.Model.{Model, edf}
+use Rattle.meaning.specs.Model.{Model}
+use Rattle.meaning.specs.ConsoleChecks.{modelA}
 use Rattle.meaning.specs.Text.Lines.{field, fields, fieldsText, fieldsThen, join, kept, keptText, outside}
 use Rattle.meaning.specs.Text.ModelReader.{cells, isMark, judge, look, lookFor, markOf, misfit, readModel, rule, used}
 use Rattle.meaning.specs.Text.ModelTable.{cell, collect, count, decode, edgeCell, edgeIn, edges, encode, guardIn, keyed, limitsIn, locationCell, locationIn, locations, lowered, resetsIn, size, tabulate, taskCell, taskIn, tasks}
@@ -15,32 +15,23 @@ use Rattle.meaning.specs.Text.Numerals.{dec, decF, digits, isDigit, nega
 use Rattle.meaning.specs.Text.Records.{Answer, done, firstStop, isStop, read, refused, run, turn, wholeText}
 
 -- "Model A", its bytes
-abbrev pub modelA : List ℕ
-modelA = 80 ∷ 79 ∷ 32 ∷ 50 ∷ 10 ∷ 67 ∷ 75 ∷ 32 ∷ 49 ∷ 10 ∷ 84 ∷ 75 ∷ 32 ∷ 50 ∷ 32 ∷ 52 ∷ 32 ∷ 48 ∷ 10 ∷ 76 ∷ 79 ∷ 32 ∷ 49 ∷ 10 ∷ 73 ∷ 86 ∷ 32 ∷ 49 ∷ 32 ∷ 53 ∷ 10 ∷ 69 ∷ 68 ∷ 32 ∷ 49 ∷ 32 ∷ 49 ∷ 10 ∷ 71 ∷ 85 ∷ 32 ∷ 48 ∷ 32 ∷ 49 ∷ 32 ∷ 45 ∷ 53 ∷ 10 ∷ 82 ∷ 83 ∷ 32 ∷ 49 ∷ 10 ∷ 69 ∷ 78 ∷ 10 ∷ []
+abbrev pub textA : List ℕ
+textA = 80 ∷ 79 ∷ 32 ∷ 50 ∷ 10 ∷ 67 ∷ 75 ∷ 32 ∷ 49 ∷ 10 ∷ 84 ∷ 75 ∷ 32 ∷ 50 ∷ 32 ∷ 52 ∷ 32 ∷ 48 ∷ 10 ∷ 76 ∷ 79 ∷ 32 ∷ 49 ∷ 10 ∷ 73 ∷ 86 ∷ 32 ∷ 49 ∷ 32 ∷ 53 ∷ 10 ∷ 69 ∷ 68 ∷ 32 ∷ 49 ∷ 32 ∷ 49 ∷ 10 ∷ 71 ∷ 85 ∷ 32 ∷ 48 ∷ 32 ∷ 49 ∷ 32 ∷ 45 ∷ 53 ∷ 10 ∷ 82 ∷ 83 ∷ 32 ∷ 49 ∷ 10 ∷ 69 ∷ 78 ∷ 10 ∷ []
 
--- the same model, part by part
-abbrev pub modelA-is : Model
-modelA-is = record {
-  policy = edf;
-  clocks = 1;
-  tasks = record { C = 2; D = 4; prio = 0 } ∷ [];
-  locations = record { task = 1; limits = record { clock = 1; most = 5 } ∷ [] } ∷ [];
-  edges = record { from = 1; to = 1; guard = record { i = 0; j = 1; c = negsuc 4 } ∷ []; resets = 1 ∷ [] } ∷ [];
-}
-
+-- the model of what was read
 unfoldable pub model : Answer (List ℕ) → Option Model
 model (done t) = some (decode t)
 model (refused k p) = none
 
-pub modelA-reads : model (readModel size modelA) ≡ some modelA-is
+pub modelA-reads : model (readModel size textA) ≡ some modelA
 unfolding readModel wholeText firstStop isStop read run turn look lookFor judge rule markOf isMark form fields fieldsThen field join outside kept number positive negated digits isDigit push cells tasks locations edges count misfit used model decode collect taskIn locationIn limitsIn edgeIn guardIn resetsIn lowered
 modelA-reads = refl
 
-pub modelA-text : modelText modelA-is ≡ modelA
+pub modelA-text : modelText modelA ≡ textA
 unfolding modelText recordText texts taskText locationText limitText edgeText boundText resetText policyNumber raised form fieldsText keptText numText dec decF
 modelA-text = refl
 
-pub modelA-table : some modelA-is ≡ some (decode (encode modelA-is))
+pub modelA-table : some modelA ≡ some (decode (encode modelA))
 unfolding decode collect taskIn locationIn limitsIn edgeIn guardIn resetsIn lowered encode tabulate cell taskCell locationCell edgeCell keyed raised policyNumber
 modelA-table = refl
 
@@ -63,6 +54,36 @@ leading-zero = refl
 pub zero-work : readModel size (80 ∷ 79 ∷ 32 ∷ 50 ∷ 10 ∷ 67 ∷ 75 ∷ 32 ∷ 49 ∷ 10 ∷ 84 ∷ 75 ∷ 32 ∷ 48 ∷ 32 ∷ 52 ∷ 32 ∷ 48 ∷ 10 ∷ 76 ∷ 79 ∷ 32 ∷ 49 ∷ 10 ∷ 73 ∷ 86 ∷ 32 ∷ 49 ∷ 32 ∷ 53 ∷ 10 ∷ 69 ∷ 68 ∷ 32 ∷ 49 ∷ 32 ∷ 49 ∷ 10 ∷ 71 ∷ 85 ∷ 32 ∷ 48 ∷ 32 ∷ 49 ∷ 32 ∷ 45 ∷ 53 ∷ 10 ∷ 82 ∷ 83 ∷ 32 ∷ 49 ∷ 10 ∷ 69 ∷ 78 ∷ 10 ∷ []) ≡ refused 5 13
 unfolding readModel wholeText firstStop isStop read run turn look lookFor judge rule markOf isMark form fields fieldsThen field join outside kept number positive negated digits isDigit push cells tasks locations edges count misfit used
 zero-work = refl
+
+-- "a mark that may not stand here (a second PO or CK too)": the second PO
+pub second-po : readModel size (80 ∷ 79 ∷ 32 ∷ 50 ∷ 10 ∷ 80 ∷ 79 ∷ 32 ∷ 50 ∷ 10 ∷ []) ≡ refused 3 5
+unfolding readModel wholeText firstStop isStop read run turn look lookFor judge rule markOf isMark form fields fieldsThen field join outside kept number positive negated digits isDigit push cells tasks locations edges count misfit used
+second-po = refl
+
+-- "text ended where a mark is due"
+pub no-text : readModel size (80 ∷ 79 ∷ 32 ∷ 50 ∷ 10 ∷ []) ≡ refused 3 5
+unfolding readModel wholeText firstStop isStop read run turn look lookFor judge rule markOf isMark form fields fieldsThen field join outside kept number positive negated digits isDigit push cells tasks locations edges count misfit used
+no-text = refl
+
+-- "bytes after EN"
+pub after-en : readModel size (80 ∷ 79 ∷ 32 ∷ 50 ∷ 10 ∷ 67 ∷ 75 ∷ 32 ∷ 48 ∷ 10 ∷ 84 ∷ 75 ∷ 32 ∷ 49 ∷ 32 ∷ 49 ∷ 32 ∷ 48 ∷ 10 ∷ 76 ∷ 79 ∷ 32 ∷ 48 ∷ 10 ∷ 69 ∷ 78 ∷ 10 ∷ 69 ∷ 78 ∷ 10 ∷ []) ≡ refused 3 27
+unfolding readModel wholeText firstStop isStop read run turn look lookFor judge rule markOf isMark form fields fieldsThen field join outside kept number positive negated digits isDigit push cells tasks locations edges count misfit used
+after-en = refl
+
+-- "or the text's end": EN without its line feed
+pub no-line-feed : readModel size (80 ∷ 79 ∷ 32 ∷ 50 ∷ 10 ∷ 67 ∷ 75 ∷ 32 ∷ 48 ∷ 10 ∷ 84 ∷ 75 ∷ 32 ∷ 49 ∷ 32 ∷ 49 ∷ 32 ∷ 48 ∷ 10 ∷ 76 ∷ 79 ∷ 32 ∷ 48 ∷ 10 ∷ 69 ∷ 78 ∷ []) ≡ refused 4 26
+unfolding readModel wholeText firstStop isStop read run turn look lookFor judge rule markOf isMark form fields fieldsThen field join outside kept number positive negated digits isDigit push cells tasks locations edges count misfit used
+no-line-feed = refl
+
+-- "FPS: priority 0 or used before"
+pub priority-used : readModel size (80 ∷ 79 ∷ 32 ∷ 49 ∷ 10 ∷ 67 ∷ 75 ∷ 32 ∷ 48 ∷ 10 ∷ 84 ∷ 75 ∷ 32 ∷ 49 ∷ 32 ∷ 49 ∷ 32 ∷ 51 ∷ 10 ∷ 84 ∷ 75 ∷ 32 ∷ 49 ∷ 32 ∷ 49 ∷ 32 ∷ 51 ∷ 10 ∷ []) ≡ refused 8 19
+unfolding readModel wholeText firstStop isStop read run turn look lookFor judge rule markOf isMark form fields fieldsThen field join outside kept number positive negated digits isDigit push cells tasks locations edges count misfit used
+priority-used = refl
+
+-- "not rising": the second limit of a clock
+pub not-rising : readModel size (80 ∷ 79 ∷ 32 ∷ 50 ∷ 10 ∷ 67 ∷ 75 ∷ 32 ∷ 49 ∷ 10 ∷ 84 ∷ 75 ∷ 32 ∷ 49 ∷ 32 ∷ 49 ∷ 32 ∷ 48 ∷ 10 ∷ 76 ∷ 79 ∷ 32 ∷ 48 ∷ 10 ∷ 73 ∷ 86 ∷ 32 ∷ 49 ∷ 32 ∷ 53 ∷ 10 ∷ 73 ∷ 86 ∷ 32 ∷ 49 ∷ 32 ∷ 53 ∷ 10 ∷ []) ≡ refused 6 31
+unfolding readModel wholeText firstStop isStop read run turn look lookFor judge rule markOf isMark form fields fieldsThen field join outside kept number positive negated digits isDigit push cells tasks locations edges count misfit used
+not-rising = refl
 
 -- a table that is not of its full size: 11, before all else
 pub small-table : (n : ℕ) → (n ≡ size → ⊥) → (s : List ℕ) → readModel n s ≡ refused 11 0

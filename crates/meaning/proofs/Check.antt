@@ -1,3 +1,4 @@
 pub mod Faults
+pub mod Start
 pub mod Answer
 pub mod DemandThree

@@ -6,6 +6,7 @@ pub mod Hooks
 pub mod Machine
 pub mod Zones
 pub mod Check
+pub mod Exact
 pub mod Text
 pub mod Published
 pub mod ConsoleChecks

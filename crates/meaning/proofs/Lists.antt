@@ -9,7 +9,8 @@ use Prim.Native.Nat.{ℕ, zero, suc, _+_, _-_, _≤_, _<_}
 use native.Mathlib.Omega.{arith}
 use native.Mathlib.Decide.{ℕ-discrete}
 use lib.Dec.{eqb, eqb-refl}
-use lib.ListN.{length, getElem?}
+use lib.ListN.{length, getElem?, getD, List·getD-append}
+use lib.Seq.{getD-append-add}
 use borrow.Author.Tests.{eqb-true, eq-eqb}
 use Rattle.meaning.specs.Lists.{every, elem, sameList, insertAt, next, first, upTo, flat}
 use Rattle.meaning.proofs.Tests.{and-left, and-right, and-both, or-left, or-right}
@@ -139,3 +140,36 @@ elem-insertAt u (suc k) t (x ∷ o) = ap (λ (b : Bool). eqb u x || b) (elem-ins
     swap true false c = refl
     swap false true c = refl
     swap false false c = refl
+
+-- ── a list made from a table ───────────────────────────────────────────────────────────────────
+
+module _ {A : Type 0} where
+  -- f k, f (k + 1), .., n of them
+  abbrev pub tabFrom : ℕ → (ℕ → A) → ℕ → List A
+  tabFrom k f zero = []
+  tabFrom k f (suc n) = f k ∷ tabFrom (suc k) f n
+
+  pub length-tab : (k : ℕ) (f : ℕ → A) (n : ℕ) → length (tabFrom k f n) ≡ n
+  length-tab k f zero = refl
+  length-tab k f (suc n) = ap suc (length-tab (suc k) f n)
+
+  pub getD-tab : (k : ℕ) (f : ℕ → A) (n i : ℕ) (d : A) → i < n → getD (tabFrom k f n) i d ≡ f (k + i)
+  getD-tab k f zero i d h = absurd (omega arith)
+  getD-tab k f (suc n) zero d h = let e : k ≡ k + 0 = omega arith in ap f e
+  getD-tab k f (suc n) (suc i) d h = let e : suc k + i ≡ k + suc i = omega arith in getD-tab (suc k) f n i d (omega arith) ∙ ap f e
+
+  -- a table and a rest behind it
+  pub tab-front : (f : ℕ → A) (n : ℕ) (r : List A) (i : ℕ) (d : A) → i < n → getD (tabFrom 1 f n ++ r) i d ≡ f (suc i)
+  tab-front f n r i d h =
+      let e : 1 + i ≡ suc i = omega arith in
+      List·getD-append (tabFrom 1 f n) r d i (omega (arith, length-tab 1 f n)) ∙ getD-tab 1 f n i d h ∙ ap f e
+
+  pub tab-back : (f : ℕ → A) (n : ℕ) (r : List A) (i : ℕ) (d : A) → getD (tabFrom 1 f n ++ r) (n + i) d ≡ getD r i d
+  tab-back f n r i d =
+      let e : n + i ≡ length (tabFrom 1 f n) + i = omega (arith, length-tab 1 f n) in
+      ap (λ (k : ℕ). getD (tabFrom 1 f n ++ r) k d) e ∙ getD-append-add (tabFrom 1 f n) r i d
+
+pub getD-map-suc : (l : List ℕ) (i : ℕ) → i < length l → getD (map suc l) i 0 ≡ suc (getD l i 0)
+getD-map-suc [] i h = absurd (omega arith)
+getD-map-suc (x ∷ l) zero h = refl
+getD-map-suc (x ∷ l) (suc i) h = getD-map-suc l i (omega arith)

@@ -7,7 +7,7 @@ use native.Mathlib.Omega.{arith}
 use lib.Dec.{leb, ltb}
 use lib.IntN.{ℤ, pos, negsuc, subℕ, negℤ, _+ℤ_, _-ℤ_}
 use lib.Signed.{leZ}
-use borrow.Author.Tests.{leb-true, ltb-true, ltb-false, le-leb, lt-leb}
+use borrow.Author.Tests.{leb-true, leb-false, ltb-true, ltb-false, le-leb, lt-leb}
 use Rattle.meaning.specs.Numbers.{over, under, within}
 use Rattle.meaning.proofs.Tests.{leb-same}
 
@@ -24,6 +24,20 @@ sum-parts (pos a) (pos b) = omega arith
 sum-parts (pos a) (negsuc b) = omega (arith, sub-parts a (suc b))
 sum-parts (negsuc a) (pos b) = omega (arith, sub-parts b (suc a))
 sum-parts (negsuc a) (negsuc b) = omega arith
+
+-- neither part of a difference or a sum is more than those of what it is made of
+pub sub-size : (a b : ℕ) → (over (subℕ a b) ≤ a) × (under (subℕ a b) ≤ b)
+sub-size a b = go (ltb a b) refl
+  where
+    go : (x : Bool) → ltb a b ≡ x → (over (cond x (negsuc (b - suc a)) (pos (a - b))) ≤ a) × (under (cond x (negsuc (b - suc a)) (pos (a - b))) ≤ b)
+    go true e = let h = ltb-true a b e in omega arith
+    go false e = let h = ltb-false a b e in omega arith
+
+pub sum-size : (a b : ℤ) → (over (a +ℤ b) ≤ over a + over b) × (under (a +ℤ b) ≤ under a + under b)
+sum-size (pos a) (pos b) = omega arith
+sum-size (pos a) (negsuc b) = omega (arith, sub-size a (suc b))
+sum-size (negsuc a) (pos b) = omega (arith, sub-size b (suc a))
+sum-size (negsuc a) (negsuc b) = omega arith
 
 pub over-neg : (a : ℤ) → over (negℤ a) ≡ under a
 over-neg (pos zero) = refl
@@ -68,3 +82,20 @@ within-true x y c e = leb-true (x + under c) (y + over c) e
 
 pub within-make : (x y : ℕ) (c : ℤ) → x + under c ≤ y + over c → within x y c ≡ true
 within-make x y c h = le-leb (x + under c) (y + over c) h
+
+-- a bound that does not hold, and that it does not hold
+pub within-false : (x y : ℕ) (c : ℤ) → within x y c ≡ false → y + over c < x + under c
+within-false x y c e = leb-false (x + under c) (y + over c) e
+
+pub within-break : (x y : ℕ) (c : ℤ) → y + over c < x + under c → within x y c ≡ false
+within-break x y c h = lt-leb (x + under c) (y + over c) h
+
+-- c + a − b
+abbrev pub shift : ℤ → ℤ → ℤ → ℤ
+shift c a b = c +ℤ (a -ℤ b)
+
+pub shift-parts : (c a b : ℤ) → over (shift c a b) + under c + under a + over b ≡ over c + over a + under b + under (shift c a b)
+shift-parts c a b = omega (arith, sum-parts c (a -ℤ b), sum-parts a (negℤ b), over-neg b, under-neg b)
+
+pub shift-none : (c : ℤ) → shift c (pos 0) (pos 0) ≡ c
+shift-none c = parts-one (shift c (pos 0) (pos 0)) c (omega (arith, shift-parts c (pos 0) (pos 0)))

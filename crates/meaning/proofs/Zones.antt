@@ -3,3 +3,4 @@ pub mod Changes
 pub mod Home
 pub mod Listed
 pub mod OnePlace
+pub mod Given

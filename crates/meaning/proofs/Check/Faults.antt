@@ -44,7 +44,7 @@ bounds-hold t z h b w = go (boundTest (vars t) b) refl
     go false e = absurd (h (b .i) (b .j) (record { bound = b; written = w; row = refl; column = refl; broken = e }))
 
 -- a proper state that is not elsewhere and breaks no bound of the zone is in it
-inside-zone : (m : Model) (z : Zone) (t : State) → Proper m t → (Elsewhere (some z) t → ⊥)
+pub inside-zone : (m : Model) (z : Zone) (t : State) → Proper m t → (Elsewhere (some z) t → ⊥)
     → ((i j : ℕ) → BreaksZone z i j t → ⊥) → InZone m z t
 inside-zone m z t p h k = go (home-dec (homeOf t) (homeOfZone z))
   where
@@ -137,7 +137,7 @@ no-fault-holds m p w (follows f) n nf = no-fault-follows m p w f n nf
 
 -- ── a state at fault: the obligation does not hold ─────────────────────────────────────────────
 
-not-late : (m : Model) (t : State) (k : ℕ) → Proper m t → lateTest m (nth1 (t .queue) k) ≡ true → ⊥
+pub not-late : (m : Model) (t : State) (k : ℕ) → Proper m t → lateTest m (nth1 (t .queue) k) ≡ true → ⊥
 not-late m t zero p h = never h refl
 not-late m t (suc k) p h = go (getElem? (t .queue) k) refl h
   where
@@ -191,6 +191,10 @@ holds-exactly m p w o n = (holds-no-fault m p o, no-fault-holds m p w o n)
 
 -- ── a failure says one thing ───────────────────────────────────────────────────────────────────
 
+-- (a, b) comes before (i, j), "row by row"
+abbrev pub RowByRow : ℕ → ℕ → ℕ → ℕ → Type 0
+RowByRow a b i j = (a < i) ⊎ ((a ≡ i) × (b < j))
+
 homeFor : Model → Obligation → Fault → Home
 homeFor m starts f = homeOf (start m)
 homeFor m (follows f) (late-at k) = homeAfter m (homeOfZone (f .zone)) (f .step)
@@ -207,7 +211,8 @@ at-lies m p o unclaimed t h = reached-lies m (o .zone) (o .step) t (h .0)
 at-lies m p o elsewhere t h = reached-lies m (o .zone) (o .step) t (h .0)
 at-lies m p o (breaks i j) t h = reached-lies m (o .zone) (o .step) t (h .0)
 
-at-start : (m : Model) (p : Proposal) (f : Fault) (t : State) → AtFault m p starts f t → t ≡ start m
+-- what is at fault at the start is the start
+pub at-start : (m : Model) (p : Proposal) (f : Fault) (t : State) → AtFault m p starts f t → t ≡ start m
 at-start m p (late-at k) t h = h .0
 at-start m p over t h = absurd h
 at-start m p unclaimed t h = h .0

@@ -1,0 +1,15 @@
+pub mod Rules
+pub mod Bounds
+pub mod Valuations
+pub mod Releases
+pub mod StepBounds
+pub mod Moves
+pub mod Reached
+pub mod Ranges
+pub mod Loops
+pub mod Entries
+pub mod Smallest
+pub mod Solved
+pub mod Late
+pub mod Faulty
+pub mod Table

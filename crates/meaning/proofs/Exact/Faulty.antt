@@ -28,7 +28,7 @@ use Rattle.meaning.proofs.Check.Faults.{Named, no-fault-holds, RowByRow
 use Rattle.meaning.proofs.Exact.Bounds.{bound, Apart, Ranged, ranged-mem}
 use Rattle.meaning.proofs.Exact.Valuations.{stateOf, RangedZone}
 use Rattle.meaning.proofs.Exact.StepBounds.{RangedModel}
-use Rattle.meaning.proofs.Exact.Reached.{stepOverflows, Source, homeAt, own-source, reached-no-overflow, over-overflow}
+use Rattle.meaning.proofs.Exact.Reached.{stepOverflows, Source, homeAt, Image, own-source, shown-leads, reached-no-overflow, over-overflow}
 use Rattle.meaning.proofs.Exact.Smallest.{Least, Lowest, least-same, movedState, ApartBefore, reached-least, over-least, over-least-as-is, reached-apart-least, none-apart}
 use Rattle.meaning.proofs.Exact.Late.{ageAt, late-position, late-apart}
 
@@ -204,11 +204,40 @@ module _ (m : Model) (p : Proposal) (f : Follow) where
 abbrev pub LateBefore : Model → Zone → Step → ℕ → (ℕ → ℕ) → Type 0
 LateBefore m z st k x = ApartBefore m z st (ageAt m k) 0 (pos (taskAt m (getD (homeAt m z st .order) k 0) .D)) x
 
-module _ (m : Model) (p : Proposal) (f : Follow) (rm : RangedModel m) (rz : RangedZone m (f .zone)) where
+module _ (m : Model) (p : Proposal) (f : Follow) (rm : RangedModel m) where
   -- no state takes the step
   pub none-holds : ((x : ℕ → ℕ) → Source m (f .zone) (f .step) x → ⊥) → Holds m p (follows f)
   none-holds h s i w = absurd (h (var s) (own-source m (f .zone) (f .step) rm s i w))
 
+  -- kind 1 at position k + 1 is ruled out: by what is known before the step, or after it
+  pub on-time-of : (k : ℕ) → k < length (homeAt m (f .zone) (f .step) .order)
+      → ((y : ℕ → ℕ) → Source m (f .zone) (f .step) y → LateBefore m (f .zone) (f .step) k y → ⊥) → OnTime m p f (suc k)
+  on-time-of k l h u r t =
+      none-apart m (f .zone) (f .step) rm (ageAt m k) 0 (pos (taskAt m (getD (homeAt m (f .zone) (f .step) .order) k 0) .D)) (omega arith) (omega arith) h u (inl r)
+      (late-apart m (f .zone) (f .step) u r k l .0 t)
+
+  pub on-time-image : (k : ℕ) → k < length (homeAt m (f .zone) (f .step) .order)
+      → ((x v : ℕ → ℕ) → Source m (f .zone) (f .step) x → Image m (f .zone) (f .step) x v
+      → v (ageAt m k) < taskAt m (getD (homeAt m (f .zone) (f .step) .order) k 0) .D)
+      → OnTime m p f (suc k)
+  on-time-image k l h u r t =
+      let x = shown-leads m (f .zone) (f .step) rm u (inl r) in
+      omega (arith, h (x .0) (var u) (x .1 .source) (x .1 .at), late-apart m (f .zone) (f .step) u r k l .0 t)
+
+  -- kind 5 between i and j is ruled out
+  module _ (y : Zone) (e : nth1 (p .zones) (f .claim) ≡ some y) (i j : ℕ) (c : ℤ) (w : Writes y i j c) where
+    pub kept-of : i < variables m (homeAt m (f .zone) (f .step) .order) → j < variables m (homeAt m (f .zone) (f .step) .order)
+        → ((v : ℕ → ℕ) → Source m (f .zone) (f .step) v → ApartBefore m (f .zone) (f .step) i j (c +ℤ pos 1) v → ⊥) → Kept m p f i j
+    kept-of hi hj h u r b =
+        none-apart m (f .zone) (f .step) rm i j (c +ℤ pos 1) hi hj h u (inl r)
+        (breaks-apart y i j c w u .0 (subst (λ (x : Option Zone). Breaks x i j u) e b))
+
+    pub kept-image : ((x v : ℕ → ℕ) → Source m (f .zone) (f .step) x → Image m (f .zone) (f .step) x v → Apart v i j (c +ℤ pos 1) → ⊥) → Kept m p f i j
+    kept-image h u r b =
+        let x = shown-leads m (f .zone) (f .step) rm u (inl r) in
+        h (x .0) (var u) (x .1 .source) (x .1 .at) (breaks-apart y i j c w u .0 (subst (λ (v : Option Zone). Breaks v i j u) e b))
+
+module _ (m : Model) (p : Proposal) (f : Follow) (rm : RangedModel m) (rz : RangedZone m (f .zone)) where
   -- a step that overflows, as its states stand
   pub over-fails : (x : ℕ → ℕ) → Lowest (variables m (f .zone .order)) (Source m (f .zone) (f .step)) x
       → stepOverflows m (homeOfZone (f .zone)) (f .step) ≡ true → Fails m p (follows f) over (stateOf m (homeOfZone (f .zone)) x)
@@ -222,12 +251,6 @@ module _ (m : Model) (p : Proposal) (f : Follow) (rm : RangedModel m) (rz : Rang
   -- ── a step that does not overflow ────────────────────────────────────────────────────────────
   module _ (n : stepOverflows m (homeOfZone (f .zone)) (f .step) ≡ false) where
     -- kind 1: late at position k + 1
-    pub on-time-of : (k : ℕ) → k < length (homeAt m (f .zone) (f .step) .order) → ((y : ℕ → ℕ) → Source m (f .zone) (f .step) y → LateBefore m (f .zone) (f .step) k y → ⊥)
-        → OnTime m p f (suc k)
-    on-time-of k l h u r t =
-        none-apart m (f .zone) (f .step) rm (ageAt m k) 0 (pos (taskAt m (getD (homeAt m (f .zone) (f .step) .order) k 0) .D)) (omega arith) (omega arith) h u (inl r)
-        (late-apart m (f .zone) (f .step) u r k l .0 t)
-
     pub late-fails : (k : ℕ) (x : ℕ → ℕ) → k < length (homeAt m (f .zone) (f .step) .order)
         → Lowest (variables m (f .zone .order)) (λ (y : ℕ → ℕ). Source m (f .zone) (f .step) y × LateBefore m (f .zone) (f .step) k y) x
         → ((i : ℕ) → i ≤ k → OnTime m p f i) → Fails m p (follows f) (late-at (suc k)) (movedState m (f .zone) (f .step) x)
@@ -256,11 +279,6 @@ module _ (m : Model) (p : Proposal) (f : Follow) (rm : RangedModel m) (rz : Rang
       -- kind 5: the bound c that the claimed zone writes between i and j
       module _ (i j : ℕ) (c : ℤ) (w : Writes y i j c) (hi : i < variables m (homeAt m (f .zone) (f .step) .order))
           (hj : j < variables m (homeAt m (f .zone) (f .step) .order)) where
-        pub kept-of : ((v : ℕ → ℕ) → Source m (f .zone) (f .step) v → ApartBefore m (f .zone) (f .step) i j (c +ℤ pos 1) v → ⊥) → Kept m p f i j
-        kept-of h u r b =
-            none-apart m (f .zone) (f .step) rm i j (c +ℤ pos 1) hi hj h u (inl r)
-            (breaks-apart y i j c w u .0 (subst (λ (x : Option Zone). Breaks x i j u) e b))
-
         pub breaks-fails : (x : ℕ → ℕ)
             → Lowest (variables m (f .zone .order)) (λ (v : ℕ → ℕ). Source m (f .zone) (f .step) v × ApartBefore m (f .zone) (f .step) i j (c +ℤ pos 1) v) x
             → Clear m p f 5 → ((a b : ℕ) → RowByRow a b i j → Kept m p f a b) → Fails m p (follows f) (breaks i j) (movedState m (f .zone) (f .step) x)

@@ -146,11 +146,16 @@ planAt m z st = planOf m (homeOfZone z) st
 abbrev pub homeAt : Model → Zone → Step → Home
 homeAt m z st = homeAfter m (homeOfZone z) st
 
+-- v is the valuation x moved by the step's plan
+abbrev pub Image : Model → Zone → Step → (ℕ → ℕ) → (ℕ → ℕ) → Type 0
+Image m z st x v =
+    (i : ℕ) → i < variables m (homeAt m z st .order) → Shifted (off m (planAt m z st) i) (x (from m (planAt m z st) i)) (v i)
+
 -- x is the valuation of a state of the zone that takes the step, and the state t is x moved
 pub record Leads (m : Model) (z : Zone) (st : Step) (x : ℕ → ℕ) (t : State) : Type 0 where
   pub source : Source m z st x
   pub is : t ≡ stateOf m (homeAt m z st) (move m (planAt m z st) x)
-  pub at : (i : ℕ) → i < variables m (homeAt m z st .order) → Shifted (off m (planAt m z st) i) (x (from m (planAt m z st) i)) (var t i)
+  pub at : Image m z st x (var t)
 
 module _ (m : Model) (z : Zone) (st : Step) (rm : RangedModel m) where
   -- one state of the zone with its valuation, and where it leads

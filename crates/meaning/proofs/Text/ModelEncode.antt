@@ -174,7 +174,7 @@ module _ (m : Model) (w : RightModel m) where
       (lt-ltb 0 (getD table (2 + 3 * t) 0) (omega arith), rw (b₁, b₂, b₃)))
       (λ t h e. let z : 2 + 3 * t + 0 ≡ 2 + 3 * t = omega arith in let c = rw z at (task-none m t 0 h (omega arith) e) in le-ltb 0 (getD table (2 + 3 * t) 0) (omega arith))
 
-  limits-are : (l : ℕ) (x : Location) → l < 16 → getElem? (m .locations) l ≡ some x → limitsIn table (20 + 5 * l) ≡ x .limits
+  pub limits-are : (l : ℕ) (x : Location) → l < 16 → getElem? (m .locations) l ≡ some x → limitsIn table (20 + 5 * l) ≡ x .limits
   unfolding limitsIn
   limits-are l x h e =
       let r = each-nth _ (m .locations) l x (w .locations) e in
@@ -186,7 +186,7 @@ module _ (m : Model) (w : RightModel m) where
       ∙ keyed-collect (λ (y : Limit). y .clock) (λ (y : Limit). y .most) (λ a b. record { clock = a; most = b }) 1 4 (x .limits) (r .rising)
       (each-map (x .limits) (λ y q. let a = q .low in let b = q .high in (omega arith, omega arith, refl)) (r .limits))
 
-  guard-is : (e : ℕ) (x : Edge) → e < 32 → getElem? (m .edges) e ≡ some x → guardIn table (100 + 31 * e) ≡ x .guard
+  pub guard-is : (e : ℕ) (x : Edge) → e < 32 → getElem? (m .edges) e ≡ some x → guardIn table (100 + 31 * e) ≡ x .guard
   unfolding guardIn
   guard-is e x h q =
       let r = each-nth _ (m .edges) e x (w .edges) q in
@@ -207,7 +207,7 @@ module _ (m : Model) (w : RightModel m) where
       (omega arith, omega arith, rw (i₁, j₁, raised-lowered (y .c) (p .least))))
       (r .guard))
 
-  resets-are : (e : ℕ) (x : Edge) → e < 32 → getElem? (m .edges) e ≡ some x → resetsIn table (100 + 31 * e) ≡ x .resets
+  pub resets-are : (e : ℕ) (x : Edge) → e < 32 → getElem? (m .edges) e ≡ some x → resetsIn table (100 + 31 * e) ≡ x .resets
   unfolding resetsIn
   resets-are e x h q =
       let r = each-nth _ (m .edges) e x (w .edges) q in

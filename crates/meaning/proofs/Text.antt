@@ -7,10 +7,13 @@ pub mod NumeralSmall
 pub mod WriteLaws
 pub mod Places
 pub mod LineLaws
+pub mod MoreLaws
+pub mod BoundLaws
 pub mod RecordLaws
 pub mod RecordParts
 pub mod Collects
 pub mod Keyed
+pub mod ClearLaws
 pub mod ModelCells
 pub mod ModelLaws
 pub mod ModelShape
@@ -22,4 +25,11 @@ pub mod ModelRising
 pub mod ModelWhole
 pub mod ModelLoop
 pub mod ModelTheorems
+pub mod RecordRowLaws
+pub mod ProposalLaws
+pub mod ProposalRight
+pub mod ProposalEncode
+pub mod ProposalWhole
+pub mod ProposalTheorems
 pub mod Examples
+pub mod ProposalExamples

@@ -33,7 +33,7 @@ collect-length m at step (suc n) f =
     go true = refl
     go false = refl
 
-ordered-snoc : {A : Type 0} (R : A → A → Type 0) (xs : List A) (y : A) → Ordered R xs → Each (λ (x : A). R x y) xs → Ordered R (xs ++ y ∷ [])
+pub ordered-snoc : {A : Type 0} (R : A → A → Type 0) (xs : List A) (y : A) → Ordered R xs → Each (λ (x : A). R x y) xs → Ordered R (xs ++ y ∷ [])
 ordered-snoc R [] y d e = (tt, tt)
 ordered-snoc R (x ∷ xs) y d e = (each-append (R x) xs (y ∷ []) (d .0) (e .0, tt), ordered-snoc R xs y (d .1) (e .1))
 

@@ -11,7 +11,8 @@ use lib.Dec.{ltb}
 use lib.ListN.{getElem?, length, take}
 use lib.Seq.{take-all}
 use borrow.Author.Tests.{eq-eqb, lt-ltb, ne-eqb}
-use Rattle.meaning.proofs.Text.Choices.{by-eq, nonsense}
+use Rattle.meaning.proofs.Text.Choices.{and-true, by-eq, nonsense}
+use Rattle.meaning.specs.Lists.{every}
 use Rattle.meaning.specs.Text.Choice.{pick}
 use Rattle.meaning.specs.Text.ModelTable.{collect, keyed}
 use Rattle.meaning.specs.Text.RightModel.{Each, Ordered}
@@ -25,6 +26,15 @@ each-map (x ∷ xs) f a = (f x (a .0), each-map xs f (a .1))
 pub each-map₂ : {A : Type 0} {P Q S : A → Type 0} (xs : List A) → ((x : A) → P x → Q x → S x) → Each P xs → Each Q xs → Each S xs
 each-map₂ [] f a b = tt
 each-map₂ (x ∷ xs) f a b = (f x (a .0) (b .0), each-map₂ xs f (a .1) (b .1))
+
+-- a test of each
+pub every-each : {A : Type 0} (f : A → Bool) (xs : List A) → every f xs ≡ true → Each (λ (x : A). f x ≡ true) xs
+every-each f [] e = tt
+every-each f (x ∷ xs) e = let a = and-true (f x) (every f xs) e in (a .0, every-each f xs (a .1))
+
+pub each-every : {A : Type 0} (f : A → Bool) (xs : List A) → Each (λ (x : A). f x ≡ true) xs → every f xs ≡ true
+each-every f [] a = refl
+each-every f (x ∷ xs) a = rw (a .0) (each-every f xs (a .1))
 
 pub each-nth : {A : Type 0} (P : A → Type 0) (xs : List A) (n : ℕ) (x : A) → Each P xs → getElem? xs n ≡ some x → P x
 each-nth P [] n x a e = nonsense (cc)

@@ -34,7 +34,7 @@ inside : (e : Range) (v : ℕ) → outside e v ≡ false → (e .low ≤ v) × (
 unfolding outside
 inside e v h = let o = or-false _ _ h in (ltb-false v (e .low) (o .0), ltb-false (e .high) v (o .1))
 
-not-outside : (e : Range) (v : ℕ) → e .low ≤ v → v ≤ e .high → outside e v ≡ false
+pub not-outside : (e : Range) (v : ℕ) → e .low ≤ v → v ≤ e .high → outside e v ≡ false
 unfolding outside
 not-outside e v a b = rw (le-ltb v (e .low) a, le-ltb (e .high) v b)
 
@@ -59,7 +59,7 @@ field-sign m s at n v k e h =
     (λ t q. number-inv m (drop (at + 1) s) (at + 1) n v k q h .sign)
     (λ t q. nonsense (cc))
 
-join-inv : (e : Range) (p v : ℕ) (x : Fields) (vs : List ℕ) (next : ℕ) → join e p v x ≡ ok vs next
+pub join-inv : (e : Range) (p v : ℕ) (x : Fields) (vs : List ℕ) (next : ℕ) → join e p v x ≡ ok vs next
     → (ws : List ℕ) × (vs ≡ v ∷ ws) × (x ≡ ok ws next) × (e .low ≤ v) × (v ≤ e .high)
 unfolding join
 join-inv e p v (ok ws k) vs next q =

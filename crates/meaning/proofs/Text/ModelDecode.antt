@@ -12,6 +12,7 @@ use Rattle.meaning.proofs.Text.Choices.{by-eq, by-lt}
 use Rattle.meaning.proofs.Text.ModelCells.{at-limit, at-location, at-task, in-edge}
 use Rattle.meaning.proofs.Text.ModelLaws.{guard-in, lawful, model-write-read, reset-in}
 use Rattle.meaning.proofs.Text.ModelShape.{clocks-there, guard-there, location-there, policy-is, policy-there, reset-there, reset-value}
+use Rattle.meaning.proofs.Text.BoundLaws.{over-of, raised-of, under-of}
 use Rattle.meaning.proofs.Text.RecordLaws.{Proper}
 use Rattle.meaning.specs.Model.{edf, fps}
 use Rattle.meaning.specs.Numbers.{over, under}
@@ -58,7 +59,7 @@ ups-steps step (suc n) g =
     let z : step * suc n ≡ step * n + step = omega arith in
     rw (z, ups-split (step * n) step g, ups-steps step n g)
 
-texts-append : {A : Type 0} (t : A → List ℕ) (xs ys : List A) → texts t (xs ++ ys) ≡ texts t xs ++ texts t ys
+pub texts-append : {A : Type 0} (t : A → List ℕ) (xs ys : List A) → texts t (xs ++ ys) ≡ texts t xs ++ texts t ys
 unfolding texts
 texts-append t [] ys = refl
 texts-append t (x ∷ xs) ys = rw (texts-append t xs ys, append-assoc)
@@ -121,15 +122,15 @@ at-from e = let z : 100 + 31 * e ≡ 100 + 31 * e + 0 = omega arith in ap markAt
 
 pub lowered-raised : (v : ℕ) → raised (lowered v) ≡ v
 unfolding lowered raised
-lowered-raised v = by-lt v timeMost (λ h. rw (lt-ltb v timeMost h) (omega arith)) (λ h. rw (le-ltb v timeMost h) (omega arith))
+lowered-raised = raised-of timeMost
 
 pub lowered-over : (v : ℕ) → over (lowered v) ≡ v - timeMost
 unfolding lowered
-lowered-over v = by-lt v timeMost (λ h. rw (lt-ltb v timeMost h) (omega arith)) (λ h. rw (le-ltb v timeMost h) (omega arith))
+lowered-over = over-of timeMost
 
 pub lowered-under : (v : ℕ) → under (lowered v) ≡ timeMost - v
 unfolding lowered
-lowered-under v = by-lt v timeMost (λ h. rw (lt-ltb v timeMost h) (omega arith)) (λ h. rw (le-ltb v timeMost h) (omega arith))
+lowered-under = under-of timeMost
 
 -- nothing there, nothing under it
 beneath : (t : Bool) (x y : List ℕ) → (t ≡ false → y ≡ []) → pick t x [] ++ y ≡ pick t (x ++ y) []

@@ -12,6 +12,7 @@ use lib.ListN.{getD, getElem?, length}
 use borrow.Author.Tests.{eqb-true, le-ltb, lt-ltb, ltb-true, ne-eqb}
 use Rattle.meaning.proofs.Text.Choices.{and-true, by-lt}
 use Rattle.meaning.proofs.Text.Keyed.{collect-all, collect-same, each-map, each-nth, keyed-collect, ordered-map}
+use Rattle.meaning.proofs.Text.BoundLaws.{key-rising, lowered-of}
 use Rattle.meaning.specs.Model.{Bound, Edge, Limit, Location, Model, Policy, Task, edf, fps}
 use Rattle.meaning.specs.Numbers.{under}
 use Rattle.meaning.specs.Text.Choice.{pick}
@@ -22,12 +23,12 @@ use Rattle.meaning.specs.Text.RightModel.{RightBound, RightModel, before
 
 -- ---- a cell of the table
 
-tabulate-length : (n : ℕ) (f : ℕ → ℕ) → length (tabulate n f) ≡ n
+pub tabulate-length : (n : ℕ) (f : ℕ → ℕ) → length (tabulate n f) ≡ n
 unfolding tabulate
 tabulate-length zero f = refl
 tabulate-length (suc n) f = ap suc (tabulate-length n (λ k. f (suc k)))
 
-tabulate-at : (n : ℕ) (f : ℕ → ℕ) (k : ℕ) → k < n → getD (tabulate n f) k 0 ≡ f k
+pub tabulate-at : (n : ℕ) (f : ℕ → ℕ) (k : ℕ) → k < n → getD (tabulate n f) k 0 ≡ f k
 unfolding tabulate
 tabulate-at zero f k h = absurd (omega arith)
 tabulate-at (suc n) f zero h = refl
@@ -137,23 +138,7 @@ module _ (m : Model) where
 
 pub raised-lowered : (c : ℤ) → under c ≤ timeMost → lowered (raised c) ≡ c
 unfolding raised lowered
-raised-lowered (pos n) h =
-    let e : timeMost + n - 0 - timeMost ≡ n = omega arith in
-    rw (le-ltb (timeMost + n - 0) timeMost (omega arith)) (ap pos e)
-raised-lowered (negsuc n) h =
-    let e : timeMost - suc (timeMost + 0 - suc n) ≡ n = omega arith in
-    rw (lt-ltb (timeMost + 0 - suc n) timeMost (omega arith)) (ap negsuc e)
-
--- in order row by row is in order of 5 i + j
-pub key-rising : (k : ℕ) (a b : Bound) → k ≤ 4 → RightBound k a → RightBound k b → before a b ≡ true → 5 * a .i + a .j < 5 * b .i + b .j
-key-rising k a b n x y e =
-    by-lt (a .i) (b .i) (λ l. let p = x .j in let q = y .j in omega arith)
-    (λ l.
-    let f : eqb (a .i) (b .i) && ltb (a .j) (b .j) ≡ true = rw (le-ltb (a .i) (b .i) l) at e in
-    let g = and-true _ _ f in
-    let i = eqb-true (a .i) (b .i) (g .0) in
-    let j = ltb-true (a .j) (b .j) (g .1) in
-    omega arith)
+raised-lowered = lowered-of timeMost
 
 module _ (m : Model) (w : RightModel m) where
   abbrev table : List ℕ
@@ -198,7 +183,7 @@ module _ (m : Model) (w : RightModel m) where
       let u : 0 + k ≡ k = omega arith in
       (rw c, rw (c, u)))
       ∙ keyed-collect (λ (y : Bound). 5 * y .i + y .j) (λ (y : Bound). raised (y .c)) (λ a b. record { i = a / 5; j = a % 5; c = lowered b }) 0 25 (x .guard)
-      (ordered-map (x .guard) (λ a b p p′ o. key-rising (m .clocks) a b few p p′ o) (r .guard) (r .guard-rising))
+      (ordered-map (x .guard) (λ a b p p′ o. key-rising 5 (m .clocks) timeMost a b (omega arith) p p′ o) (r .guard) (r .guard-rising))
       (each-map (x .guard) (λ y p.
       let a = p .i in
       let b = p .j in

@@ -22,6 +22,7 @@ use Rattle.meaning.specs.Text.Choice.{pick}
 use Rattle.meaning.specs.Text.ModelReader.{cells, format, get, isNone, markAt, misfit, rule, used, width, words}
 use Rattle.meaning.specs.Text.ModelTable.{clocks, count, edges, encode, locations, size, tasks, there}
 use Rattle.meaning.specs.Text.ModelText.{ck, ed, form, gu, iv, lo, po, policyNumber, raised, rs, tk}
+use Rattle.meaning.specs.Text.Ranges.{timeMost}
 use Rattle.meaning.specs.Text.RightModel.{Ordered, Ranked, RightBound, RightEdge, RightLimit, RightLocation, RightModel, RightTask}
 
 -- ---- the first records of a table in which nothing stands alone
@@ -433,7 +434,7 @@ module _ (m : Model) (w : RightModel m) where
   right-bound e r x h a b q f =
       let i = each-nth (RightEdge (m .clocks) (length (m .locations))) (m .edges) e x (w .edges) q in
       let c = bound-cell m e r x h a b q in
-      let y = keyed-found (λ (y : Bound). 5 * y .i + y .j) (λ (y : Bound). raised (y .c)) (RightBound (m .clocks)) (x .guard) (r - 2) (i .guard) (omega arith) in
+      let y = keyed-found (λ (y : Bound). 5 * y .i + y .j) (λ (y : Bound). raised (y .c)) (RightBound (m .clocks) timeMost) (x .guard) (r - 2) (i .guard) (omega arith) in
       let y₁ = y .1 in
       let q₁ = y .3 .i in
       let q₂ = y .3 .j in

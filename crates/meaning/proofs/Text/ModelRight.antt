@@ -171,14 +171,14 @@ module _ (m : List ℕ) (p : Proper format lawful m) where
       }
 
   right-bound : (e x : ℕ) → e < 32 → x < 25 → 0 < getD m (100 + 31 * e + (2 + x)) 0
-      → RightBound (clocks m) (record { i = x / 5; j = x % 5; c = lowered (getD m (100 + 31 * e + (2 + x)) 0 - 1) })
+      → RightBound (clocks m) timeMost (record { i = x / 5; j = x % 5; c = lowered (getD m (100 + 31 * e + (2 + x)) 0 - 1) })
   unfolding rule width form cells
   right-bound e x h i f =
       let q : markAt (100 + 31 * e + (2 + x)) ≡ gu = in-edge e (2 + x) (omega arith) ∙ guard-in (2 + x) (omega arith) (omega arith) in
       let s = record-at m p (100 + 31 * e + (2 + x)) gu (omega arith) q (omega arith) f in
       let n = clocks-of (100 + 31 * e + (2 + x)) (omega arith) (omega arith) in
       by-three (λ (v : List ℕ). rule gu (upto m p (100 + 31 * e + (2 + x))) .slot v ≡ 100 + 31 * e + (2 + x) → rule gu (upto m p (100 + 31 * e + (2 + x))) .wrong v ≡ 0
-      → cells gu v ≡ get m (100 + 31 * e + (2 + x)) → RightBound (clocks m) (record { i = x / 5; j = x % 5; c = lowered (getD m (100 + 31 * e + (2 + x)) 0 - 1) }))
+      → cells gu v ≡ get m (100 + 31 * e + (2 + x)) → RightBound (clocks m) timeMost (record { i = x / 5; j = x % 5; c = lowered (getD m (100 + 31 * e + (2 + x)) 0 - 1) }))
       (between 0 (clocks (upto m p (100 + 31 * e + (2 + x))))) (between 0 (clocks (upto m p (100 + 31 * e + (2 + x))))) (around timeMost) (s .vals) (s .within)
       (λ a b c a₁ a₂ b₁ b₂ c₁ c₂ g w d.
       let few = s .few in
@@ -226,7 +226,7 @@ module _ (m : List ℕ) (p : Proper format lawful m) where
         from-high = omega arith;
         to-low = omega arith;
         to-high = omega arith;
-        guard = each-collect (RightBound (clocks m)) 25 (λ x. there m (100 + 31 * e + 2 + x)) (λ x. record { i = x / 5; j = x % 5; c = lowered (getD m (100 + 31 * e + 2 + x) 0 - 1) })
+        guard = each-collect (RightBound (clocks m) timeMost) 25 (λ x. there m (100 + 31 * e + 2 + x)) (λ x. record { i = x / 5; j = x % 5; c = lowered (getD m (100 + 31 * e + 2 + x) 0 - 1) })
             (λ x i t.
             let z : 100 + 31 * e + 2 + x ≡ 100 + 31 * e + (2 + x) = omega arith in
             rw z (right-bound e x h i (rw z at (ltb-true 0 (getD m (100 + 31 * e + 2 + x) 0) t))));

@@ -4,12 +4,13 @@ use Prim.Native.Nat.{_%_, _*_, _+_, _-_, _/_, _<_, _≤_, suc, zero, ℕ}
 use mathlib.Core.Bool.{false}
 use mathlib.Core.List.{List, [], _++_, _∷_, map}
 use mathlib.Core.Logic.{_↔_}
-use mathlib.Core.Path.{_≡_, ap, refl}
+use mathlib.Core.Path.{_∙_, _≡_, refl}
 use native.Mathlib.Omega.{arith}
-use lib.Dec.{eqb, ltb}
+use lib.Dec.{eqb}
 use lib.ListN.{length, length-append}
-use borrow.Author.Tests.{eqb-true, le-ltb, lt-ltb, ne-eqb}
+use borrow.Author.Tests.{eqb-true, le-ltb, lt-ltb}
 use Rattle.meaning.proofs.Text.Choices.{by-lt, by-pick, nonsense}
+use Rattle.meaning.proofs.Text.ClearLaws.{Clear, clear-append, fields-clear, whole-clear, whole-done}
 use Rattle.meaning.proofs.Text.ModelLaws.{lawful, model-read-proper, model-read-write, model-write-read}
 use Rattle.meaning.proofs.Text.RecordLaws.{Proper}
 use Rattle.meaning.specs.Text.Lines.{fieldsText, keptText}
@@ -17,8 +18,7 @@ use Rattle.meaning.specs.Text.ModelReader.{format, get, keysAt, line, li
 use Rattle.meaning.specs.Text.ModelTable.{size}
 use Rattle.meaning.specs.Text.ModelText.{Mark, ck, ed, en, form, gu, iv, lo, other, po, rs, tk}
 use Rattle.meaning.specs.Text.Numerals.{dec, decF, digitsMost, numText}
-use Rattle.meaning.specs.Text.Ranges.{textMost}
-use Rattle.meaning.specs.Text.Records.{done, firstStop, isStop, linesTo, wholeText, write}
+use Rattle.meaning.specs.Text.Records.{done, isStop, linesTo, read, write}
 
 -- ---- lengths
 
@@ -71,40 +71,6 @@ text-short m = omega (arith, linesTo-short m size, length-append (linesTo format
 
 -- ---- commas and full stops
 
-abbrev Clear : List ℕ → Type 0
-Clear [] = Unit {0}
-Clear (b ∷ bs) = (isStop b ≡ false) × Clear bs
-
-clear-append : (xs ys : List ℕ) → Clear xs → Clear ys → Clear (xs ++ ys)
-clear-append [] ys a b = b
-clear-append (x ∷ xs) ys a b = (a .0, clear-append xs ys (a .1) b)
-
-clear-first : (s : List ℕ) → Clear s → firstStop s ≡ length s
-unfolding firstStop
-clear-first [] c = refl
-clear-first (b ∷ bs) c = rw (c .0) (ap suc (clear-first bs (c .1)))
-
-digit-clear : (v : ℕ) → v < 10 → isStop (48 + v) ≡ false
-unfolding isStop
-digit-clear v h = rw (ne-eqb (48 + v) 44 (omega arith), ne-eqb (48 + v) 46 (omega arith))
-
-decF-clear : (f v : ℕ) → Clear (decF f v)
-unfolding decF
-decF-clear zero v = tt
-decF-clear (suc f) v =
-    by-lt v 10 (λ h. rw (lt-ltb v 10 h) (digit-clear v h, tt))
-    (λ h. rw (le-ltb v 10 h) (clear-append (decF f (v / 10)) ((48 + v % 10) ∷ []) (decF-clear f (v / 10)) (digit-clear (v % 10) (omega arith), tt)))
-
-kept-clear : (k v : ℕ) → Clear (keptText k v)
-unfolding keptText numText dec isStop
-kept-clear k v = by-lt v k (λ h. rw (lt-ltb v k h) (refl, decF-clear digitsMost (k - v))) (λ h. rw (le-ltb v k h) (decF-clear digitsMost (v - k)))
-
-fields-clear : (ks vs : List ℕ) → Clear (fieldsText ks vs)
-unfolding fieldsText isStop
-fields-clear [] vs = (refl, tt)
-fields-clear (k ∷ ks) [] = (refl, tt)
-fields-clear (k ∷ ks) (v ∷ vs) = (refl, clear-append (keptText k v) (fieldsText ks vs) (kept-clear k v) (fields-clear ks vs))
-
 form-clear : (q : Mark) → (isStop (form q .first) ≡ false) × (isStop (form q .second) ≡ false)
 unfolding form isStop
 form-clear po = (refl, refl)
@@ -137,11 +103,8 @@ text-clear m = clear-append (linesTo format m size) (69 ∷ 78 ∷ 10 ∷ []) (l
 -- ---- the two round trips
 
 pub model-written : (m : List ℕ) → Proper format lawful m → readModel size (write format m) ≡ done m
-unfolding readModel wholeText
-model-written m p =
-    let h = text-short m in
-    let c = clear-first (write format m) (text-clear m) in
-    rw (le-ltb textMost (length (write format m)) (omega arith), le-ltb (firstStop (write format m)) (length (write format m)) (omega arith)) (model-write-read m p)
+unfolding readModel
+model-written m p = let h = text-short m in whole-clear (write format m) (read format (write format m)) (text-clear m) (omega arith) ∙ model-write-read m p
 
 -- what a text that is read tells
 pub record Told (n : ℕ) (s m : List ℕ) : Type 0 where
@@ -150,12 +113,10 @@ pub record Told (n : ℕ) (s m : List ℕ) : Type 0 where
   pub proper : Proper format lawful m
 
 pub model-given : (n : ℕ) (s m : List ℕ) → readModel n s ≡ done m → Told n s m
-unfolding readModel wholeText
+unfolding readModel
 model-given n s m e =
     by-pick (eqb n size) _ _ _ e
-    (λ t e. by-pick (ltb textMost (length s)) _ _ _ e (λ _ e. nonsense (cc))
-    (λ _ e. by-pick (ltb (firstStop s) (length s)) _ _ _ e (λ _ e. nonsense (cc))
-    (λ _ e. record { whole = eqb-true n size t; text = model-read-write s m e; proper = model-read-proper s m e })))
+    (λ t e. let w = whole-done s (read format s) m e .1 in record { whole = eqb-true n size t; text = model-read-write s m w; proper = model-read-proper s m w })
     (λ _ e. nonsense (cc))
 
 -- so the tables that some text gives are just those that are read back from what they are written as: refusal 13 can be told by reading

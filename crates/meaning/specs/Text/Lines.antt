@@ -1,11 +1,13 @@
 -- The fields of a line, after its mark. Document 01: "fields each after one space, a line feed".
 -- s is the whole text and `at` a place in it. Past the end `getD s at 0` is 0, which no rule lets stand, so no rule asks for the length.
 -- Assumes nothing.
-use Prim.Native.Nat.{ℕ, _+_, _-_}
-use mathlib.Core.List.{List, [], _∷_, _++_}
+use Prim.Native.Nat.{ℕ, zero, suc, _+_, _-_}
+use mathlib.Core.List.{List, [], _∷_, _++_, map}
 use mathlib.Core.Bool.{Bool, true, false, _||_}
 use lib.Dec.{ltb, eqb}
+use lib.IntN.{ℤ, subℕ}
 use lib.ListN.{getD, drop}
+use Rattle.meaning.specs.Numbers.{over, under}
 use Rattle.meaning.specs.Text.Choice.{pick}
 use Rattle.meaning.specs.Text.Numerals.{Numeral, num, stuck, tooLarge, number, numText}
 
@@ -60,6 +62,25 @@ unfoldable pub fields : List Range → List ℕ → ℕ → Fields
 fields [] s at = pick (eqb (getD s at 0) 10) (ok [] (at + 1)) (bad at)
 fields (e ∷ es) s at = fieldsThen e at (λ k. fields es s k) (field (ltb 0 (e .below)) s at)
 
+-- "0 to 6 tasks", "the claims": at most n numbers of one range, and "a line feed"
+unfoldable pub fieldsUpTo : ℕ → Range → List ℕ → ℕ → Fields
+fieldsUpTo zero e s at = fields [] s at
+fieldsUpTo (suc n) e s at =
+    pick (eqb (getD s at 0) 10) (ok [] (at + 1)) (fieldsThen e at (λ k. fieldsUpTo n e s k) (field (ltb 0 (e .below)) s at))
+
+-- a number for each range, then at most n numbers of one range
+unfoldable pub fieldsMore : List Range → ℕ → Range → List ℕ → ℕ → Fields
+fieldsMore [] n e s at = fieldsUpTo n e s at
+fieldsMore (f ∷ es) n e s at = fieldsThen f at (λ k. fieldsMore es n e s k) (field (ltb 0 (f .below)) s at)
+
+-- a signed number as it is kept, with k added
+abbrev pub raisedBy : ℕ → ℤ → ℕ
+raisedBy k c = k + over c - under c
+
+-- a signed number from what is kept of it: k less
+abbrev pub loweredBy : ℕ → ℕ → ℤ
+loweredBy k v = subℕ v k
+
 -- the text of a number that is kept with k added
 unfoldable pub keptText : ℕ → ℕ → List ℕ
 keptText k v = pick (ltb v k) (numText true (k - v)) (numText false (v - k))
@@ -69,3 +90,7 @@ unfoldable pub fieldsText : List ℕ → List ℕ → List ℕ
 fieldsText [] vs = 10 ∷ []
 fieldsText (k ∷ ks) [] = 10 ∷ []
 fieldsText (k ∷ ks) (v ∷ vs) = 32 ∷ (keptText k v ++ fieldsText ks vs)
+
+-- the text of numbers whose ranges do not go below 0, and the line feed
+unfoldable pub numbersText : List ℕ → List ℕ
+numbersText vs = fieldsText (map (λ (v : ℕ). 0) vs) vs

@@ -16,11 +16,12 @@ use mathlib.Core.List.{List, [], _∷_, _++_}
 use mathlib.Core.Option.{Option, none, some}
 use mathlib.Core.Bool.{Bool}
 use lib.Dec.{ltb, eqb}
-use lib.IntN.{ℤ, subℕ}
+use lib.IntN.{ℤ}
 use lib.ListN.{getD, getElem?}
 use Rattle.meaning.specs.Model.{fps, edf, Task, Limit, Bound, Location, Edge, Model}
 use Rattle.meaning.specs.Text.Choice.{pick}
 use Rattle.meaning.specs.Text.Ranges.{timeMost, tasksMost, locationsMost, edgesMost}
+use Rattle.meaning.specs.Text.Lines.{loweredBy}
 use Rattle.meaning.specs.Text.ModelText.{policyNumber, raised}
 
 -- "its full size"
@@ -80,7 +81,7 @@ collect (suc n) p f = collect n p f ++ pick (p n) (f n ∷ []) []
 
 -- c of GU from what is kept of it: 10,000 less
 unfoldable pub lowered : ℕ → ℤ
-lowered v = subℕ v timeMost
+lowered v = loweredBy timeMost v
 
 module _ (t : List ℕ) where
   -- the task whose slot is k

@@ -1,13 +1,12 @@
 -- The text of a model. Document 01, "The two texts": marks, fields and their order.
 -- Assumes nothing.
-use Prim.Native.Nat.{ℕ, _+_, _-_}
+use Prim.Native.Nat.{ℕ}
 use mathlib.Core.List.{List, [], _∷_, _++_}
 use mathlib.Core.Bool.{Bool, true, false}
 use lib.IntN.{ℤ}
-use Rattle.meaning.specs.Numbers.{over, under}
 use Rattle.meaning.specs.Model.{Policy, fps, edf, Task, Limit, Bound, Location, Edge, Model}
 use Rattle.meaning.specs.Text.Ranges.{timeMost}
-use Rattle.meaning.specs.Text.Lines.{fieldsText}
+use Rattle.meaning.specs.Text.Lines.{fieldsText, raisedBy}
 
 -- the column "Mark"; other: two bytes that are none of them
 pub data Mark : Type 0 where
@@ -51,7 +50,7 @@ policyNumber edf = 2
 
 -- "c from −10,000 to 10,000", as it is kept: with 10,000 added
 unfoldable pub raised : ℤ → ℕ
-raised c = timeMost + over c - under c
+raised c = raisedBy timeMost c
 
 -- "C and D", "priority"
 unfoldable pub taskText : Task → List ℕ

@@ -29,3 +29,19 @@ locationsMost = 16
 -- ED: "0 to 32" of them
 abbrev pub edgesMost : ℕ
 edgesMost = 32
+
+-- ZN: "1 to 48 zones"; GO: "the claims, each 0 to 48"
+abbrev pub zonesMost : ℕ
+zonesMost = 48
+
+-- ZN: "0 to 6 tasks"
+abbrev pub queueMost : ℕ
+queueMost = 6
+
+-- "BD bounds run from −32,000 to 32,000."
+abbrev pub boundMost : ℕ
+boundMost = 32000
+
+-- "There are at most 17 variables."
+abbrev pub variablesMost : ℕ
+variablesMost = 17

@@ -39,25 +39,25 @@ pub record RightLocation (clocks tasks : ℕ) (x : Location) : Type 0 where
   pub limits : Each (RightLimit clocks) (x .limits)
   pub rising : Ordered (λ (a b : Limit). a .clock < b .clock) (x .limits)
 
--- "i, j, c from −10,000 to 10,000", "i ≠ j, clocks or 0"
-pub record RightBound (clocks : ℕ) (x : Bound) : Type 0 where
-  pub i : x .i ≤ clocks
-  pub j : x .j ≤ clocks
+-- "i, j, c": i and j of the variables 0 to last, "i ≠ j", c from −end to end
+pub record RightBound (last end : ℕ) (x : Bound) : Type 0 where
+  pub i : x .i ≤ last
+  pub j : x .j ≤ last
   pub two : x .i ≡ x .j → ⊥
-  pub least : under (x .c) ≤ timeMost
-  pub most : over (x .c) ≤ timeMost
+  pub least : under (x .c) ≤ end
+  pub most : over (x .c) ≤ end
 
 -- "rising (i, j)": row by row
 abbrev pub before : Bound → Bound → Bool
 before a b = ltb (a .i) (b .i) || (eqb (a .i) (b .i) && ltb (a .j) (b .j))
 
--- "from, to", locations of the model; "rising (i, j)"; RS: "clock", "rising"
+-- "from, to", locations of the model; "c from −10,000 to 10,000", "clocks or 0", "rising (i, j)"; RS: "clock", "rising"
 pub record RightEdge (clocks locations : ℕ) (x : Edge) : Type 0 where
   pub from-low : 1 ≤ x .from
   pub from-high : x .from ≤ locations
   pub to-low : 1 ≤ x .to
   pub to-high : x .to ≤ locations
-  pub guard : Each (RightBound clocks) (x .guard)
+  pub guard : Each (RightBound clocks timeMost) (x .guard)
   pub guard-rising : Ordered (λ (a b : Bound). before a b ≡ true) (x .guard)
   pub resets : Each (λ (k : ℕ). (1 ≤ k) × (k ≤ clocks)) (x .resets)
   pub resets-rising : Ordered (λ (a b : ℕ). a < b) (x .resets)

@@ -31,5 +31,8 @@ pub mod ProposalRight
 pub mod ProposalEncode
 pub mod ProposalWhole
 pub mod ProposalTheorems
+pub mod RecordRowLoop
+pub mod ProposalStore
+pub mod ProposalLoop
 pub mod Examples
 pub mod ProposalExamples

@@ -8,7 +8,7 @@ use native.Mathlib.Omega.{arith}
 use lib.Dec.{eqb}
 use lib.ListN.{getD}
 use borrow.Author.Tests.{le-ltb, lt-ltb, ltb-false, ltb-true, ne-eqb}
-use Rattle.meaning.proofs.Text.Choices.{by-eq, by-lt}
+use Rattle.meaning.proofs.Text.Choices.{by-eq}
 use Rattle.meaning.proofs.Text.ModelCells.{at-limit, at-location, at-task, in-edge}
 use Rattle.meaning.proofs.Text.ModelLaws.{guard-in, lawful, model-write-read, reset-in}
 use Rattle.meaning.proofs.Text.ModelShape.{clocks-there, guard-there, location-there, policy-is, policy-there, reset-there, reset-value}

@@ -1,16 +1,14 @@
 -- The table of a model that a text can say holds that model.
 -- Assumes nothing.
 use Prim.Native.Nat.{_%_, _*_, _+_, _-_, _/_, _<_, _≤_, suc, zero, ℕ}
-use mathlib.Core.Bool.{_&&_, true}
 use mathlib.Core.List.{List}
 use mathlib.Core.Option.{none, some}
 use mathlib.Core.Path.{_∙_, _≡_, ap, refl, sym}
 use native.Mathlib.Omega.{arith}
-use lib.Dec.{eqb, ltb}
-use lib.IntN.{negsuc, pos, ℤ}
+use lib.Dec.{eqb}
+use lib.IntN.{ℤ}
 use lib.ListN.{getD, getElem?, length}
-use borrow.Author.Tests.{eqb-true, le-ltb, lt-ltb, ltb-true, ne-eqb}
-use Rattle.meaning.proofs.Text.Choices.{and-true, by-lt}
+use borrow.Author.Tests.{le-ltb, lt-ltb, ne-eqb}
 use Rattle.meaning.proofs.Text.Keyed.{collect-all, collect-same, each-map, each-nth, keyed-collect, ordered-map}
 use Rattle.meaning.proofs.Text.BoundLaws.{key-rising, lowered-of}
 use Rattle.meaning.specs.Model.{Bound, Edge, Limit, Location, Model, Policy, Task, edf, fps}
@@ -19,7 +17,7 @@ use Rattle.meaning.specs.Text.Choice.{pick}
 use Rattle.meaning.specs.Text.ModelTable.{cell, collect, decode, edgeCell, edgeIn, encode, guardIn, keyed, limitsIn, locationCell, locationIn, lowered, resetsIn, size, tabulate, taskCell, taskIn, there}
 use Rattle.meaning.specs.Text.ModelText.{policyNumber, raised}
 use Rattle.meaning.specs.Text.Ranges.{timeMost}
-use Rattle.meaning.specs.Text.RightModel.{RightBound, RightModel, before}
+use Rattle.meaning.specs.Text.RightModel.{RightModel}
 
 -- ---- a cell of the table
 

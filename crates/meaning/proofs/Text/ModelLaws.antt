@@ -14,7 +14,7 @@ use borrow.Fn.PlainCycle.{is}
 use Rattle.meaning.proofs.Text.Choices.{and-true, by-eq, by-lt, by-pick, nonsense}
 use Rattle.meaning.proofs.Text.LineLaws.{Tame, Within, belows, fields-inv, fields-read}
 use Rattle.meaning.proofs.Text.ModelCells.{at-limit, at-location, at-task, count-le, in-edge, own-cell, owner, sets-first, sets-other, words-same, words-sets}
-use Rattle.meaning.proofs.Text.Places.{here-cons, here-head, here-tail}
+use Rattle.meaning.proofs.Text.Places.{here-head, here-mark, mark-here}
 use Rattle.meaning.proofs.Text.RecordLaws.{Lawful, Proper, part, read-proper, read-write, write-read}
 use Rattle.meaning.specs.Text.Choice.{pick}
 use Rattle.meaning.specs.Text.Lines.{Fields, Range, around, bad, between, fields, fieldsText, ok, out}
@@ -67,18 +67,13 @@ known other m e = nonsense (cc)
 mark-inv : (q : Mark) (s : List ℕ) (at : ℕ) (m : List ℕ) → rule q m .due ≡ true → markOf (getD s at 0) (getD s (at + 1) 0) ≡ q
     → drop at s ≡ form q .first ∷ form q .second ∷ drop (at + 2) s
 unfolding isMark
-mark-inv q s at m d e =
-    let k = known q m d in
-    let r : at + 1 + 1 ≡ at + 2 = omega arith in
-    let h = and-true _ _ (mark-is _ _ q e (k .2)) in
-    rw (here-cons s at (form q .first) (k .0) (h .0), here-cons s (at + 1) (form q .second) (k .1) (h .1), r)
+mark-inv q s at m d e = let k = known q m d in mark-here s at (form q .first) (form q .second) (k .0) (k .1) (mark-is _ _ q e (k .2))
 
 mark-read : (q : Mark) (s : List ℕ) (at : ℕ) (l : List ℕ) → drop at s ≡ form q .first ∷ form q .second ∷ l
     → (markOf (getD s at 0) (getD s (at + 1) 0) ≡ q) × (drop (at + 2) s ≡ l)
 mark-read q s at l e =
-    let e₁ = here-tail s at (form q .first) (form q .second ∷ l) e in
-    let r : at + 1 + 1 ≡ at + 2 = omega arith in
-    (rw (here-head s at (form q .first) _ e, here-head s (at + 1) (form q .second) l e₁) (bytes-mark q), rw r at (here-tail s (at + 1) (form q .second) l e₁))
+    let h = here-mark s at (form q .first) (form q .second) l e in
+    (rw (h .0, h .1) (bytes-mark q), h .2)
 
 -- ---- ranges
 

@@ -1,6 +1,6 @@
 -- The model's reader as it is called, and the writer: each is the other's inverse. No table's text is long, or has a comma or a full stop.
 -- Assumes nothing.
-use Prim.Native.Nat.{_%_, _*_, _+_, _-_, _/_, _<_, _≤_, suc, zero, ℕ}
+use Prim.Native.Nat.{_%_, _*_, _+_, _-_, _/_, _≤_, suc, zero, ℕ}
 use mathlib.Core.Bool.{false}
 use mathlib.Core.List.{List, [], _++_, _∷_, map}
 use mathlib.Core.Logic.{_↔_}

@@ -3,7 +3,7 @@
 use Prim.Native.Nat.{_%_, _*_, _+_, _-_, _/_, _<_, _≤_, suc, zero, ℕ}
 use mathlib.Core.Bool.{Bool, false, true}
 use mathlib.Core.List.{List, [], _++_, _∷_, map}
-use mathlib.Core.Path.{_∙_, _≡_, ap, refl, subst, sym}
+use mathlib.Core.Path.{_∙_, _≡_, ap, refl, sym}
 use native.Mathlib.Omega.{arith}
 use lib.Dec.{eqb, ltb}
 use lib.ListN.{drop, getD, length, length-append, replicate}

@@ -1,17 +1,17 @@
 -- What stands at a place of a text, and a field that is read and written there.
 -- Assumes nothing.
 use Prim.Native.Nat.{_+_, _<_, _≤_, suc, ℕ}
-use mathlib.Core.Bool.{Bool, false, true}
+use mathlib.Core.Bool.{Bool, _&&_, false, true}
 use mathlib.Core.List.{List, [], _++_, _∷_}
 use mathlib.Core.Path.{_∙_, _≡_, ap, sym}
 use native.Mathlib.Nat.{add-zero}
 use native.Mathlib.Numerals.{add-one}
 use native.Mathlib.Omega.{arith}
 use lib.Dec.{eqb}
-use lib.ListN.{List·getD-eq-default, drop, getD, length, length-drop}
+use lib.ListN.{List·getD-eq-default, drop, getD, length, length-append, length-drop}
 use lib.Seq.{drop-append-seam, drop-cons, drop-drop, getD-drop}
 use borrow.Author.Tests.{eq-eqb, eqb-true, ne-eqb}
-use Rattle.meaning.proofs.Text.Choices.{by-lt, by-pick, nonsense}
+use Rattle.meaning.proofs.Text.Choices.{and-true, by-lt, by-pick, nonsense}
 use Rattle.meaning.proofs.Text.NumeralLaws.{number-next}
 use Rattle.meaning.proofs.Text.NumeralRound.{Stops, number-inv, number-read}
 use Rattle.meaning.specs.Text.Lines.{field}
@@ -50,6 +50,24 @@ module _ (s : List ℕ) (at : ℕ) where
   here-cons b p e =
       let h = in-text s at b p e in
       rw (add-one) (drop-cons s at 0 h ∙ ap (λ (y : ℕ). y ∷ drop (suc at) s) (eqb-true (getD s at 0) b e))
+
+-- "a two-byte mark" that stands here, and the rest of its line
+module _ (s : List ℕ) (at a b : ℕ) where
+  pub mark-here : 0 < a → 0 < b → eqb (getD s at 0) a && eqb (getD s (at + 1) 0) b ≡ true → drop at s ≡ a ∷ b ∷ drop (at + 2) s
+  mark-here p q e =
+      let h = and-true (eqb (getD s at 0) a) (eqb (getD s (at + 1) 0) b) e in
+      let r : at + 1 + 1 ≡ at + 2 = omega arith in
+      rw (here-cons s at a p (h .0), here-cons s (at + 1) b q (h .1), r)
+
+  pub here-mark : (l : List ℕ) → drop at s ≡ a ∷ b ∷ l → (getD s at 0 ≡ a) × (getD s (at + 1) 0 ≡ b) × (drop (at + 2) s ≡ l)
+  here-mark l e =
+      let t = here-tail s at a (b ∷ l) e in
+      let r : at + 1 + 1 ≡ at + 2 = omega arith in
+      (here-head s at a (b ∷ l) e, here-head s (at + 1) b l t, rw r at (here-tail s (at + 1) b l t))
+
+-- what has an end that is not empty stands within the text
+pub here-in : (s : List ℕ) (at : ℕ) (l e : List ℕ) → 0 < length e → drop at s ≡ l ++ e → at ≤ length s
+here-in s at l e h q = omega (arith, sym (length-drop at s) ∙ ap length q, length-append l e)
 
 -- ---- reading what was written
 

@@ -14,7 +14,7 @@ use Rattle.meaning.proofs.Text.ModelEncode.{tabulate-at, tabulate-lengt
 use Rattle.meaning.specs.Model.{Bound, Model}
 use Rattle.meaning.specs.Text.Lines.{loweredBy, raisedBy}
 use Rattle.meaning.specs.Text.ModelReader.{words}
-use Rattle.meaning.specs.Text.ModelTable.{collect, there}
+use Rattle.meaning.specs.Text.ModelTable.{there}
 use Rattle.meaning.specs.Text.ProposalTable.{allClaims, boundCell, boundsIn, cell, cellOf, claimsIn, decode, encode, endIn, headCell, orderIn, poolSize, size, startIn, zoneIn}
 use Rattle.meaning.specs.Text.Ranges.{boundMost}
 use Rattle.meaning.specs.Text.RightModel.{RightModel}
@@ -24,14 +24,14 @@ use Rattle.meaning.specs.Zones.Zone.{Proposal, Zone}
 
 -- ---- parts of a list
 
-nth-past : {A : Type 0} (xs ys : List A) (k : ℕ) → getElem? (xs ++ ys) (length xs + k) ≡ getElem? ys k
+pub nth-past : {A : Type 0} (xs ys : List A) (k : ℕ) → getElem? (xs ++ ys) (length xs + k) ≡ getElem? ys k
 nth-past [] ys k = let z : 0 + k ≡ k = omega arith in ap (getElem? ys) z
 nth-past (x ∷ xs) ys k = let z : suc (length xs) + k ≡ suc (length xs + k) = omega arith in rw z (nth-past xs ys k)
 
-nth-front : {A : Type 0} (xs ys : List A) (k : ℕ) (x : A) → getElem? xs k ≡ some x → getElem? (xs ++ ys) k ≡ some x
-nth-front [] ys k x e = nonsense (cc)
-nth-front (y ∷ xs) ys zero x e = e
-nth-front (y ∷ xs) ys (suc k) x e = nth-front xs ys k x e
+pub nth-before : {A : Type 0} (xs ys : List A) (k : ℕ) → k < length xs → getElem? (xs ++ ys) k ≡ getElem? xs k
+nth-before [] ys k h = absurd (omega arith)
+nth-before (x ∷ xs) ys zero h = refl
+nth-before (x ∷ xs) ys (suc k) h = nth-before xs ys k (omega arith)
 
 -- the claims in front of zone k + 1, its own, and those behind it
 claims-split : (zs : List Zone) (k : ℕ) (z : Zone) → getElem? zs k ≡ some z
@@ -182,7 +182,8 @@ module _ (m : Model) (r : RightModel m) (p : Proposal) (w : RightProposal m p) (
         pool-cell p (length (allClaims (take k zones)) + x) (omega arith),
         s .0,
         nth-past (allClaims (take k zones)) (z .claims ++ allClaims (drop (suc k) zones)) x,
-        nth-front (z .claims) (allClaims (drop (suc k) zones)) x v i,
+        nth-before (z .claims) (allClaims (drop (suc k) zones)) x l,
+        i,
       )))
 
   -- the table of a proposal holds that proposal

@@ -1,13 +1,13 @@
 -- Document 01's console checks of proposal texts, on the definitions: Proposal A over Model A, and a refused text for each refusal.
 -- Assumes nothing.
-use Prim.Native.Nat.{ℕ, suc, zero, _≤_}
-use mathlib.Core.Bool.{Bool, false, true}
+use Prim.Native.Nat.{ℕ, suc, zero}
+use mathlib.Core.Bool.{false, true}
 use mathlib.Core.List.{List, [], _++_, _∷_}
 use mathlib.Core.Option.{some}
 use mathlib.Core.Path.{_≡_, refl, subst}
 use native.Mathlib.Omega.{arith}
 use lib.IntN.{pos}
-use lib.ListN.{length, replicate}
+use lib.ListN.{replicate}
 use borrow.Author.Tests.{ne-eqb}
 use Rattle.meaning.proofs.Text.Choices.{nonsense}
 use Rattle.meaning.proofs.Text.Examples.{model, textA as modelBytes, modelA-reads}
@@ -26,7 +26,6 @@ use Rattle.meaning.specs.Text.Numerals.{dec, decF, digits, isDigit, nega
 use Rattle.meaning.specs.Text.ProposalReader.{isMark, judged, look, lookBound, lookClaims, lookEnd, lookOrder, proposalOf, put, readProposal, row, stored, whole}
 use Rattle.meaning.specs.Text.ProposalTable.{decode, encode, size}
 use Rattle.meaning.specs.Text.ProposalText.{boundText, claimsText, orderText, proposalText, zoneText}
-use Rattle.meaning.specs.Text.Ranges.{textMost}
 use Rattle.meaning.specs.Text.RecordRow.{read, run, turn}
 use Rattle.meaning.specs.Text.Records.{Answer, done, firstStop, isStop, refused, wholeText}
 use Rattle.meaning.specs.Text.RightModel.{RightModel}

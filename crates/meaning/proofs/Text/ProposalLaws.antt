@@ -1,6 +1,6 @@
 -- The proposal text is lawful: what is read is what is written, both ways.
 -- Assumes nothing.
-use Prim.Native.Nat.{_*_, _+_, _-_, _<_, _≤_, suc, zero, ℕ}
+use Prim.Native.Nat.{_+_, _-_, _<_, _≤_, ℕ}
 use mathlib.Core.Bool.{Bool, _&&_, false, not, true}
 use mathlib.Core.List.{List, [], _++_, _∷_, tail}
 use mathlib.Core.Path.{_∙_, _≡_, ap, refl, sym}
@@ -8,23 +8,22 @@ use native.Mathlib.Omega.{arith}
 use lib.Dec.{eqb, leb, ltb}
 use lib.ListN.{drop, drop-of-length-le, getD, length, length-append, length-drop, replicate}
 use borrow.Author.Tests.{eq-eqb, eqb-false, eqb-true, le-leb, le-ltb, leb-true, lt-ltb, ltb-false, ltb-true, ne-eqb}
-use Rattle.meaning.proofs.Text.Choices.{and-true, by-lt, by-pick, nonsense}
+use Rattle.meaning.proofs.Text.Choices.{and-true, by-pick, nonsense}
 use Rattle.meaning.proofs.Text.Collects.{each-append, ordered-snoc}
 use Rattle.meaning.proofs.Text.Keyed.{each-every, each-map, every-each}
 use Rattle.meaning.proofs.Text.LineLaws.{Tame, Within, fields-inv, fields-read}
 use Rattle.meaning.proofs.Text.ModelLaws.{by-three}
 use Rattle.meaning.proofs.Text.MoreLaws.{Plain, each-within, numbers-long, plain-inv, plain-read, within-each}
-use Rattle.meaning.proofs.Text.Places.{here-cons, here-head, here-tail}
+use Rattle.meaning.proofs.Text.Places.{here-head, here-mark, mark-here}
 use Rattle.meaning.proofs.Text.BoundLaws.{lowered-of, over-of, raised-of, under-of}
 use Rattle.meaning.proofs.Text.RecordRowLaws.{Lawful}
 use Rattle.meaning.specs.Lists.{every}
 use Rattle.meaning.specs.Model.{Bound, Model}
-use Rattle.meaning.specs.Text.Choice.{pick}
-use Rattle.meaning.specs.Text.Lines.{Fields, Range, around, bad, between, fields, fieldsMore, fieldsText, loweredBy, numbersText, ok, out, raisedBy}
-use Rattle.meaning.specs.Text.ProposalReader.{Entry, Sofar, begun, bound, boundOf, claims, entryText, isMark, judged, look, lookBound, lookClaims, lookEnd, lookOrder, order, put, rises, row, upToLast, whole, withBound, withClaims}
+use Rattle.meaning.specs.Text.Lines.{Fields, Range, around, bad, between, fields, fieldsMore, fieldsText, numbersText, ok, out, raisedBy}
+use Rattle.meaning.specs.Text.ProposalReader.{Entry, Sofar, begun, bound, boundOf, claims, entryText, isMark, judged, look, lookBound, lookClaims, lookEnd, lookOrder, order, put, rises, row, upToLast, whole, withClaims}
 use Rattle.meaning.specs.Text.ProposalText.{boundText, claimsText, endText, orderText}
 use Rattle.meaning.specs.Text.Ranges.{boundMost, queueMost, zonesMost}
-use Rattle.meaning.specs.Text.RecordRow.{Met, closed, next, wrong}
+use Rattle.meaning.specs.Text.RecordRow.{Met, closed, next}
 use Rattle.meaning.specs.Text.RightModel.{Each, RightBound, RightModel, before}
 use Rattle.meaning.specs.Text.RightProposal.{RightBounds, RightClaims, RightOrder, RightZone, claimsFit, zeroDue, zerosAt}
 use Rattle.meaning.specs.Zones.Proper.{fits}
@@ -34,24 +33,13 @@ use Rattle.meaning.specs.Zones.Zone.{Zone}
 
 -- ---- marks
 
-module _ (s : List ℕ) (at a b : ℕ) where
-  mark-inv : 0 < a → 0 < b → isMark s at a b ≡ true → drop at s ≡ a ∷ b ∷ drop (at + 2) s
-  unfolding isMark
-  mark-inv p q e =
-      let h = and-true (eqb (getD s at 0) a) (eqb (getD s (at + 1) 0) b) e in
-      let r : at + 1 + 1 ≡ at + 2 = omega arith in
-      rw (here-cons s at a p (h .0), here-cons s (at + 1) b q (h .1), r)
-
-  -- the two bytes, and the rest of the line
-  mark-read : (l : List ℕ) → drop at s ≡ a ∷ b ∷ l → (getD s at 0 ≡ a) × (getD s (at + 1) 0 ≡ b) × (drop (at + 2) s ≡ l)
-  mark-read l e =
-      let t = here-tail s at a (b ∷ l) e in
-      let r : at + 1 + 1 ≡ at + 2 = omega arith in
-      (here-head s at a (b ∷ l) e, here-head s (at + 1) b l t, rw r at (here-tail s (at + 1) b l t))
+mark-inv : (s : List ℕ) (at a b : ℕ) → 0 < a → 0 < b → isMark s at a b ≡ true → drop at s ≡ a ∷ b ∷ drop (at + 2) s
+unfolding isMark
+mark-inv = mark-here
 
 -- ---- lines
 
-judged-next : (x : Fields) (f : List ℕ → ℕ → Met Entry) (w : Entry) (k : ℕ) → judged x f ≡ next w k → (v : List ℕ) × (n : ℕ) × (x ≡ ok v n) × (f v n ≡ next w k)
+pub judged-next : (x : Fields) (f : List ℕ → ℕ → Met Entry) (w : Entry) (k : ℕ) → judged x f ≡ next w k → (v : List ℕ) × (n : ℕ) × (x ≡ ok v n) × (f v n ≡ next w k)
 unfolding judged
 judged-next (bad p) f w k e = nonsense (cc)
 judged-next (out p) f w k e = nonsense (cc)
@@ -77,7 +65,7 @@ module _ (m : Model) (r : RightModel m) where
 
   abbrev pub Good : Sofar → Type 0
   Good (whole zs) = (length zs ≤ zonesMost) × Each (RightZone m zonesMost) zs
-  Good (begun zs z) = (length zs < zonesMost) × Each (RightZone m zonesMost) zs × RightOrder m (z .location) (z .order) × RightBounds m (z .order) (z .bounds)
+  Good (begun zs z) = (length zs < zonesMost) × Each (RightZone m zonesMost) zs × RightOrder m (z .location) (z .order) × RightBounds m (z .order) (z .bounds) × (z .claims ≡ [])
 
   -- the record may stand after what was read
   abbrev pub Ok : Sofar → Entry → Type 0
@@ -95,7 +83,7 @@ module _ (m : Model) (r : RightModel m) where
 
   pub good-put : (x : Sofar) (w : Entry) → Good x → Ok x w → Good (put x w)
   unfolding put
-  good-put (whole zs) (order l o) g k = (k .0, g .1, k .1, record { each = tt; rising = tt })
+  good-put (whole zs) (order l o) g k = (k .0, g .1, k .1, record { each = tt; rising = tt }, refl)
   good-put (whole zs) (bound b) g k = absurd k
   good-put (whole zs) (claims c) g k = absurd k
   good-put (begun zs z) (order l o) g k = absurd k
@@ -107,6 +95,7 @@ module _ (m : Model) (r : RightModel m) where
       each = each-append (RightBound (variables m (z .order) - 1) boundMost) (z .bounds) (b ∷ []) (g .3 .each) (k .0, tt);
       rising = ordered-snoc (λ (a b : Bound). before a b ≡ true) (z .bounds) b (g .3 .rising) (k .1);
     },
+    g .4,
   )
   good-put (begun zs z) (claims c) g k = (
     (let h = g .0 in omega (arith, length-append zs (withClaims z c ∷ []))),
@@ -157,7 +146,7 @@ module _ (m : Model) (r : RightModel m) where
       → (k : ℕ) × (look m s at (whole zs) ≡ next (order l o) k) × (drop k s ≡ u) × (at < k)
   unfolding look isMark lookOrder judged entryText orderText
   order-read s at zs l o u g e =
-      let b = mark-read s at 90 78 (numbersText (l ∷ o) ++ u) e in
+      let b = here-mark s at 90 78 (numbersText (l ∷ o) ++ u) e in
       let a : Within (place ∷ replicate (length o) task) (l ∷ o) = (g .1 .low, g .1 .high, each-within task o (g .1 .tasks)) in
       let i = plain-read (place ∷ []) task (plain-place, tt) plain-task (length o) queueMost (l ∷ o) u s (at + 2) (g .1 .few) a (b .2) in
       let n = i .3 in
@@ -204,7 +193,7 @@ module _ (m : Model) (r : RightModel m) where
       → (k : ℕ) × (look m s at (begun zs z) ≡ next (bound b) k) × (drop k s ≡ u) × (at < k)
   unfolding look isMark lookBound judged entryText boundText
   bound-read s at zs z b u g o e =
-      let c = mark-read s at 66 68 (fieldsText (0 ∷ 0 ∷ boundMost ∷ []) (b .i ∷ b .j ∷ raisedBy boundMost (b .c) ∷ []) ++ u) e in
+      let c = here-mark s at 66 68 (fieldsText (0 ∷ 0 ∷ boundMost ∷ []) (b .i ∷ b .j ∷ raisedBy boundMost (b .c) ∷ []) ++ u) e in
       let w₁ = o .0 .i in
       let w₂ = o .0 .j in
       let w₃ = o .0 .most in
@@ -245,7 +234,7 @@ module _ (m : Model) (r : RightModel m) where
       → (k : ℕ) × (look m s at (begun zs z) ≡ next (claims c) k) × (drop k s ≡ u) × (at < k)
   unfolding look isMark lookClaims judged entryText claimsText
   claims-read s at zs z c u o e =
-      let b = mark-read s at 71 79 (numbersText c ++ u) e in
+      let b = here-mark s at 71 79 (numbersText c ++ u) e in
       let l : length c ≤ length s = omega (arith, sym (length-drop at s) ∙ ap length e, length-append (numbersText c) u, numbers-long c) in
       let i = plain-read [] claim tt plain-claim (length c) (length s) c u s (at + 2) l (each-within claim c (each-map c (λ v a. (omega arith, a)) (o .each))) (b .2) in
       let n = i .3 in
@@ -285,14 +274,14 @@ module _ (m : Model) (r : RightModel m) where
   unfolding look isMark lookEnd judged fields
   end-read s at (begun zs z) f e = absurd f
   end-read s at (whole zs) f e =
-      let c = mark-read s at 69 78 (10 ∷ []) e in
+      let c = here-mark s at 69 78 (10 ∷ []) e in
       let d : length s ≤ at + 2 + 1 = omega (arith, sym (length-drop at s) ∙ ap length e) in
       rw (c .0, c .1, lt-ltb 0 (length zs) (f .0), here-head s (at + 2) 10 [] (c .2), up-make (length zs) zs (f .1), le-ltb (at + 2 + 1) (length s) d)
 
   -- ---- all marks
 
   -- EN is no record of a zone, and they do not end the text
-  end-ends : (s : List ℕ) (at : ℕ) (x : Sofar) (w : Entry) (k : ℕ) → lookEnd m s at x ≡ next w k → ⊥
+  pub end-ends : (s : List ℕ) (at : ℕ) (x : Sofar) (w : Entry) (k : ℕ) → lookEnd m s at x ≡ next w k → ⊥
   unfolding lookEnd
   end-ends s at (begun zs z) w k e = nonsense (cc)
   end-ends s at (whole zs) w k e =

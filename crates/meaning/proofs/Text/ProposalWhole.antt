@@ -15,7 +15,7 @@ use Rattle.meaning.proofs.Text.ProposalRight.{read-told, right-read}
 use Rattle.meaning.specs.Model.{Bound, Model}
 use Rattle.meaning.specs.Text.Lines.{numbersText}
 use Rattle.meaning.specs.Text.ModelText.{texts}
-use Rattle.meaning.specs.Text.ProposalReader.{Sofar, proposalOf, readProposal, row, stored, whole}
+use Rattle.meaning.specs.Text.ProposalReader.{Sofar, proposalOf, readProposal, row, stored}
 use Rattle.meaning.specs.Text.ProposalTable.{allClaims, encode, poolSize, size}
 use Rattle.meaning.specs.Text.ProposalText.{boundText, claimsText, endText, orderText, proposalText, zoneText}
 use Rattle.meaning.specs.Text.Ranges.{textMost}

@@ -8,8 +8,9 @@ use mathlib.Core.Option.{some}
 use mathlib.Core.Path.{_∙_, _≡_, ap, refl, subst, sym}
 use native.Mathlib.Nat.{add-zero, zero-add}
 use native.Mathlib.Omega.{arith}
-use lib.ListN.{drop, length, length-append, length-drop}
+use lib.ListN.{drop, length}
 use Rattle.meaning.proofs.Text.Choices.{by-lt}
+use Rattle.meaning.proofs.Text.Places.{here-in}
 use Rattle.meaning.specs.Text.Choice.{pick}
 use Rattle.meaning.specs.Text.Records.{Format, Seen, done, end, fault, linesTo, read, rec, run, turn, write}
 
@@ -131,9 +132,6 @@ module _ {M W : Type 0} (F : Format M W) (L : Lawful F) where
   unfolding part
   part-some m i e = rw e
 
-  here-in : (s : List ℕ) (at : ℕ) (l : List ℕ) → drop at s ≡ l ++ F .last → at ≤ length s
-  here-in s at l e = omega (arith, sym (length-drop at s) ∙ ap length e, length-append l (F .last), L .last-some)
-
   module _ (m : M) (p : Proper m) (s : List ℕ) where
     reads : (d i c at f : ℕ) → L .Good (part m i) c → i + d ≡ F .size → c ≤ i → drop at s ≡ from m i d ++ F .last → length s < at + f → at ≤ length s
         → run F f s at c (part m i) ≡ done m
@@ -159,7 +157,7 @@ module _ {M W : Type 0} (F : Format M W) (L : Lawful F) where
             let o = p .right i (omega arith) b in
             let x = L .rec-read s at c (part m i) i (F .get m i) (from m (suc i) d ++ F .last) g o k
             (e ∙ append-assoc (F .line i (F .get m i)) (from m (suc i) d) (F .last)) in
-            let y = here-in s (x .0) (from m (suc i) d) (x .2) in
+            let y = here-in s (x .0) (from m (suc i) d) (F .last) (L .last-some) (x .2) in
             let w = x .3 in
             rw (x .1) (rw (part-some m i b) at (ih₂ (x .0) (rw (part-some m i b) (L .good-put (part m i) c i (F .get m i) g o k)) (omega arith) (omega arith) (x .2) (omega arith) y))
 

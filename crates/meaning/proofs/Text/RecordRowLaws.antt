@@ -5,8 +5,9 @@ use Prim.Native.Nat.{_+_, _<_, _≤_, suc, zero, ℕ}
 use mathlib.Core.List.{List, [], _++_, _∷_, append-assoc}
 use mathlib.Core.Path.{_∙_, _≡_, ap, refl, subst, sym}
 use native.Mathlib.Omega.{arith}
-use lib.ListN.{drop, length, length-append, length-drop}
+use lib.ListN.{drop, length}
 use Rattle.meaning.proofs.Text.Choices.{nonsense}
+use Rattle.meaning.proofs.Text.Places.{here-in}
 use Rattle.meaning.specs.Text.ModelText.{texts}
 use Rattle.meaning.specs.Text.RecordRow.{Met, Row, closed, next, read, run, turn, wrong}
 use Rattle.meaning.specs.Text.Records.{done}
@@ -69,9 +70,6 @@ module _ {M W : Type 0} (R : Row M W) (L : Lawful R) where
   unfolding read
   read-found s out e = finds (length s + 1) s 0 (R .start) out (L .good-start) e
 
-  here-in : (s : List ℕ) (at : ℕ) (l : List ℕ) → drop at s ≡ l ++ R .last → at ≤ length s
-  here-in s at l e = omega (arith, sym (length-drop at s) ∙ ap length e, length-append l (R .last), L .last-some)
-
   reads : (ws : List W) (f : ℕ) (s : List ℕ) (at : ℕ) (m out : M) → L .Good m → Chain m ws out → L .Full out → drop at s ≡ texts (R .line) ws ++ R .last
       → length s < at + f → at ≤ length s → run R f s at m ≡ done out
   unfolding run turn texts
@@ -80,7 +78,7 @@ module _ {M W : Type 0} (R : Row M W) (L : Lawful R) where
       rw (L .closed-read s at m g (subst (L .Full) (sym c) h) e) (ap done c)
   reads (w ∷ ws) (suc f) s at m out g c h e l b =
       let x = L .next-read s at m w (texts (R .line) ws ++ R .last) g (c .0) (e ∙ append-assoc (R .line w) (texts (R .line) ws) (R .last)) in
-      let y = here-in s (x .0) (texts (R .line) ws) (x .2) in
+      let y = here-in s (x .0) (texts (R .line) ws) (R .last) (L .last-some) (x .2) in
       let z = x .3 in
       rw (x .1) (reads ws f s (x .0) (R .put m w) out (L .good-put m w g (c .0)) (c .1) h (x .2) (omega arith) y)
 

@@ -1,0 +1,3 @@
+-- What the program's functions ask and give.
+-- Assumes nothing.
+pub mod Lists

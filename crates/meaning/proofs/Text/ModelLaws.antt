@@ -26,7 +26,7 @@ use Rattle.meaning.specs.Text.Records.{done, end, read, rec, write}
 
 -- ---- marks
 
-bytes-mark : (q : Mark) → markOf (form q .first) (form q .second) ≡ q
+pub bytes-mark : (q : Mark) → markOf (form q .first) (form q .second) ≡ q
 unfolding markOf isMark form
 bytes-mark po = refl
 bytes-mark ck = refl
@@ -117,13 +117,13 @@ below-is other m = refl
 
 -- ---- numbers within their ranges, and the slot and the cells that they go to
 
-record Fits (q : Mark) (m v : List ℕ) : Type 0 where
-  mark : markAt (rule q m .slot v) ≡ q
-  told : keysAt q (rule q m .slot v) ++ map (λ (x : ℕ). x - 1) (cells q v) ≡ v
-  many : length (cells q v) ≡ width q
-  some : 0 < getD (cells q v) 0 0
-  early : rule q m .slot v ≤ rule q m .latest
-  inside : rule q m .slot v + width q ≤ size
+pub record Fits (q : Mark) (m v : List ℕ) : Type 0 where
+  pub mark : markAt (rule q m .slot v) ≡ q
+  pub told : keysAt q (rule q m .slot v) ++ map (λ (x : ℕ). x - 1) (cells q v) ≡ v
+  pub many : length (cells q v) ≡ width q
+  pub some : 0 < getD (cells q v) 0 0
+  pub early : rule q m .slot v ≤ rule q m .latest
+  pub inside : rule q m .slot v + width q ≤ size
 
 pub by-one : (P : List ℕ → Type 0) (e : Range) (v : List ℕ) → Within (e ∷ []) v → ((a : ℕ) → e .low ≤ a → a ≤ e .high → P (a ∷ [])) → P v
 by-one P e [] w f = absurd w
@@ -150,7 +150,7 @@ reset-in r a = rw (ne-eqb r 0 (omega arith), ne-eqb r 1 (omega arith), le-ltb r 
 less : (a : ℕ) → suc a - 1 ≡ a
 less a = omega arith
 
-fits : (q : Mark) (m v : List ℕ) → form q .closes ≡ false → rule q m .room ≡ true → clocks m ≤ 4 → Within (rule q m .ends) v → Fits q m v
+pub fits : (q : Mark) (m v : List ℕ) → form q .closes ≡ false → rule q m .room ≡ true → clocks m ≤ 4 → Within (rule q m .ends) v → Fits q m v
 unfolding rule form cells width keysAt markInEdge
 fits po m v o r h w = by-one (Fits po m) (between 1 2) v w (λ a x y.
     record { mark = (unfold markAt in refl); told = rw (less a); many = refl; some = omega arith; early = omega arith; inside = omega arith })

@@ -1,0 +1,3 @@
+pub mod Numbered
+pub mod Meant
+pub mod Entered

@@ -9,3 +9,7 @@ pub mod Storing
 pub mod Clearing
 pub mod Answering
 pub mod Once
+pub mod Slots
+pub mod Writing
+pub mod Sameness
+pub mod Giving

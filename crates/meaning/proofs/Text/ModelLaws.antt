@@ -102,7 +102,7 @@ tame rs m h = omega arith
 tame en m h = tt
 tame other m h = tt
 
-below-is : (q : Mark) (m : List ℕ) → belows (rule q m .ends) ≡ form q .below
+pub below-is : (q : Mark) (m : List ℕ) → belows (rule q m .ends) ≡ form q .below
 unfolding rule form
 below-is po m = refl
 below-is ck m = refl

@@ -1,13 +1,14 @@
 -- The theorems of the model's text: what is read, what is written, what a table stands for, and which tables are refused by 13.
 -- Assumes nothing.
 use Prim.Native.Nat.{_<_, ℕ}
-use mathlib.Core.List.{List}
+use mathlib.Core.List.{List, [], _∷_}
 use mathlib.Core.Logic.{_↔_}
-use mathlib.Core.Path.{_∙_, _≡_, ap, sym}
+use mathlib.Core.Path.{_∙_, _≡_, ap, refl, sym}
 use native.Mathlib.Omega.{arith}
 use lib.ListN.{length}
+use Rattle.meaning.proofs.Text.Choices.{by-eq}
 use Rattle.meaning.proofs.Text.ModelDecode.{decode-one, text-is}
-use Rattle.meaning.proofs.Text.ModelEncode.{decode-encode}
+use Rattle.meaning.proofs.Text.ModelEncode.{decode-encode, encode-length}
 use Rattle.meaning.proofs.Text.ModelLaws.{lawful}
 use Rattle.meaning.proofs.Text.ModelProper.{encode-proper}
 use Rattle.meaning.proofs.Text.ModelRight.{decode-right}
@@ -18,7 +19,7 @@ use Rattle.meaning.specs.Text.ModelReader.{Given, format, readModel}
 use Rattle.meaning.specs.Text.ModelTable.{decode, encode, size}
 use Rattle.meaning.specs.Text.ModelText.{modelText}
 use Rattle.meaning.specs.Text.Ranges.{textMost}
-use Rattle.meaning.specs.Text.Records.{Answer, done, write}
+use Rattle.meaning.specs.Text.Records.{Answer, done, refused, write}
 use Rattle.meaning.specs.Text.RightModel.{RightModel}
 
 -- a table that a text gives is proper, and the other way round
@@ -87,3 +88,32 @@ text-one m n v w e =
 -- every model's text is shorter than 65,535 bytes
 pub model-short : (m : Model) → RightModel m → length (modelText m) < textMost
 model-short m w = let k = ap length (encode-text m w) in let l = text-short (encode m) in omega arith
+
+-- a table that a text gives is of its full size
+pub given-length : (t : List ℕ) → Given t → length t ≡ size
+given-length t g = ap length (sym (given-encode t g)) ∙ encode-length (decode t)
+
+-- ---- which tables a text gives can be told
+
+-- two lists of numbers are one, or not
+pub by-list {ℓ} : {X : Type ℓ} (a b : List ℕ) → (a ≡ b → X) → ((a ≡ b → ⊥) → X) → X
+by-list [] [] f g = f refl
+by-list [] (y ∷ b) f g = g (λ e. let z : _≡_ {A = ℕ} 0 1 = cc in omega arith)
+by-list (x ∷ a) [] f g = g (λ e. let z : _≡_ {A = ℕ} 0 1 = cc in omega arith)
+by-list (x ∷ a) (y ∷ b) f g =
+    by-eq x y
+    (λ p. by-list a b (λ q. f (cc)) (λ n. g (λ e. let q : a ≡ b = cc in n q)))
+    (λ n. g (λ e. let p : x ≡ y = cc in n p))
+
+-- a text gives the table, or none does
+pub by-given {ℓ} : {X : Type ℓ} (t : List ℕ) → (readModel size (write format t) ≡ done t → X) → ((Given t → ⊥) → X) → X
+by-given {X = X} t f g = go (readModel size (write format t)) refl
+  where
+    go : (a : Answer (List ℕ)) → readModel size (write format t) ≡ a → X
+    go (done u) e =
+        by-list u t (λ q. f (e ∙ ap done q))
+        (λ n. g (λ w.
+        let h : _≡_ {A = Answer (List ℕ)} (done u) (done t) = sym e ∙ write-then-read t w in
+        let q : u ≡ t = cc in
+        n q))
+    go (refused k p) e = g (λ w. let h : refused k p ≡ done t = sym e ∙ write-then-read t w in let z : _≡_ {A = ℕ} 0 1 = cc in omega arith)

@@ -40,12 +40,12 @@ pad-get (a ∷ b ∷ c ∷ []) h (suc (suc zero)) = refl
 pad-get (a ∷ b ∷ c ∷ []) h (suc (suc (suc k))) = refl
 pad-get (a ∷ b ∷ c ∷ d ∷ vs) h k = absurd (omega arith)
 
-firsts-same : (v w : List ℕ) (k d : ℕ) → ((x : ℕ) → getD v x 0 ≡ getD w x 0) → firsts v k d ≡ firsts w k d
+pub firsts-same : (v w : List ℕ) (k d : ℕ) → ((x : ℕ) → getD v x 0 ≡ getD w x 0) → firsts v k d ≡ firsts w k d
 unfolding firsts
 firsts-same v w k zero h = refl
 firsts-same v w k (suc d) h = rw (h k, firsts-same v w (suc k) d h)
 
-firsts-drop : (v : List ℕ) (k d : ℕ) → k + d ≡ length v → firsts v k d ≡ drop k v
+pub firsts-drop : (v : List ℕ) (k d : ℕ) → k + d ≡ length v → firsts v k d ≡ drop k v
 unfolding firsts
 firsts-drop v k zero h = let l : length v ≤ k = omega arith in sym (drop-of-length-le v l)
 firsts-drop v k (suc d) h = rw (firsts-drop v (suc k) d (omega arith)) (sym (drop-cons v k 0 (omega arith)))

@@ -1,6 +1,7 @@
 -- Any two results that the reader's contract allows coincide, and any two that the writer's allows.
 -- Assumes nothing.
-use mathlib.Core.Path.{_≡_, sym, _∙_}
+use mathlib.Core.Path.{_≡_, refl, sym, _∙_}
+use mathlib.Core.Bool.{Bool, true, false}
 use mathlib.Core.List.{List}
 use Prim.Native.Nat.{ℕ}
 use lib.ListN.{length}
@@ -12,7 +13,7 @@ use Rattle.model.specs.declared.reading.Read.{Read}
 use Rattle.model.specs.declared.reading.Read.the-variants.{Done, Refused}
 use Rattle.model.specs.declared.writing.Written.{Written}
 use Rattle.model.specs.declared.writing.Written.the-variants as writer
-use Rattle.model.specs.Meant.{meant, Answered, written, Wrote, LengthOf}
+use Rattle.model.specs.Meant.{meant, Answered, written, Wrote, LengthOf, GivenTest}
 
 same-read : (r s : Read) (t u : List ℕ) (a : Answer (List ℕ)) → meant r t ≡ a → meant s u ≡ a → r ≡ s
 same-read Done Done t u a p q = cc
@@ -48,3 +49,10 @@ length-once t m n p q =
     by-eq m 0
     (λ e. by-eq n 0 (λ f. e ∙ sym f) (λ f. absurd (p .none e (record { text = write format t; reads = q .some f .0 }))))
     (λ e. by-eq n 0 (λ f. absurd (q .none f (record { text = write format t; reads = p .some e .0 }))) (λ f. p .some e .1 ∙ sym (q .some f .1)))
+
+-- whether a text gives a table
+pub given-once : (t : List ℕ) (r s : Bool) → GivenTest t r → GivenTest t s → r ≡ s
+given-once t true true p q = refl
+given-once t true false p q = absurd (q .no refl (p .yes refl))
+given-once t false true p q = absurd (p .no refl (q .yes refl))
+given-once t false false p q = refl

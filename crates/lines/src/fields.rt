@@ -45,7 +45,7 @@ fn kept_of(below: u32, minus: bool, size: u32) -> u32
 }
 
 // The place of the first number outside its range, or 0: o up to here, and v at p.
-fn first_out(o: usize, low: u32, high: u32, v: u32, p: usize) -> usize
+pub fn first_out(o: usize, low: u32, high: u32, v: u32, p: usize) -> usize
     ensures { λ r. ⌜ r ≡ firstOut o (outside (between low high) v) p ⌝ }
 {
     if o == 0 {

@@ -10,7 +10,7 @@ use lib.Dec.{leb, ltb, eqb}
 use lib.ListN.{length}
 use borrow.Author.Tests.{eqb-true, eqb-false, ne-eqb, leb-true, leb-false}
 use Rattle.meaning.specs.Lists.{elem, insertAt, every}
-use Rattle.meaning.specs.Model.{Model, Edge, Location, taskAt, locationAt, releases, leavesAt, target, released, releasedAtStart}
+use Rattle.meaning.specs.Model.{fps, edf, Task, Model, Edge, Location, taskAt, locationAt, releases, leavesAt, target, released, releasedAtStart}
 use Rattle.meaning.specs.Machine.State.{Job, State, order}
 use Rattle.meaning.specs.Machine.Place.{behind, beats, beatsBy}
 use Rattle.meaning.specs.Machine.Release.{overflows, overflowsAny}
@@ -26,6 +26,16 @@ pub beats-is : (m : Model) (n : ℕ) (j : Job) → beats m n j ≡ beatsBy (m .p
 unfolding beats
 beats-is m n j = refl
 
+-- "FPS: larger priority beats"
+pub beatsBy-fps : (n : ℕ) (t u : Task) (j : Job) → beatsBy fps n t u j ≡ ltb (u .prio) (t .prio)
+unfolding beatsBy
+beatsBy-fps n t u j = refl
+
+-- "EDF: fewer ticks left to the deadline (D minus age) beats; at equality the larger task number beats"
+pub beatsBy-edf : (n : ℕ) (t u : Task) (j : Job) → beatsBy edf n t u j ≡ (ltb (t .D + j .age) (u .D) || (eqb (t .D + j .age) (u .D) && ltb (j .task) n))
+unfolding beatsBy
+beatsBy-edf n t u j = refl
+
 -- ── the first allowed place ────────────────────────────────────────────────────────────────────
 
 -- it is a place of the queue
@@ -39,6 +49,11 @@ unfolding behind
 behind-none m t o = refl
 
 -- ── overflow ───────────────────────────────────────────────────────────────────────────────────
+
+-- a task overflows a queue in which it stands
+pub overflows-is : (m : Model) (t : ℕ) (o : List ℕ) → overflows m t o ≡ elem t o
+unfolding overflows
+overflows-is m t o = refl
 
 -- a queue with fewer tasks takes what a queue with more tasks takes
 pub overflows-tail : (m : Model) (t x : ℕ) (o : List ℕ) → overflows m t (x ∷ o) ≡ false → overflows m t o ≡ false

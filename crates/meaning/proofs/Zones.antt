@@ -4,3 +4,4 @@ pub mod Home
 pub mod Listed
 pub mod OnePlace
 pub mod Given
+pub mod Counting

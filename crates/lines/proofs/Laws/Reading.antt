@@ -23,7 +23,7 @@ after vs o (ok ws next) = pick (eqb o 0) (ok (vs ++ ws) next) (out o)
 after vs o (bad p) = bad p
 after vs o (out q) = out (pick (eqb o 0) q o)
 
-after-join : (vs : List ℕ) (o : ℕ) (e : Range) (p w : ℕ) (x : Fields) → 0 < p → after vs o (join e p w x) ≡ after (vs ++ w ∷ []) (firstOut o (outside e w) p) x
+pub after-join : (vs : List ℕ) (o : ℕ) (e : Range) (p w : ℕ) (x : Fields) → 0 < p → after vs o (join e p w x) ≡ after (vs ++ w ∷ []) (firstOut o (outside e w) p) x
 unfolding join after firstOut
 after-join vs o e p w x h = go (eqb o 0) refl (outside e w) refl x
   where

@@ -42,3 +42,26 @@ number-small m (b ∷ bs) at n w k e =
 pub field-small : (m : Bool) (s : List ℕ) (at : ℕ) (n : Bool) (w k : ℕ) → field m s at ≡ num n w k → w ≤ tooLarge
 unfolding field
 field-small m s at n w k e = by-pick (eqb (getD s at 0) 32) _ _ _ e (λ t q. number-small m (drop (at + 1) s) (at + 1) n w k q) (λ t q. nonsense (cc))
+
+-- ---- where no minus may stand, none is read
+
+digits-plain : (l : List ℕ) (at v : ℕ) (n : Bool) (w k : ℕ) → digits l at v ≡ num n w k → n ≡ false
+unfolding digits
+digits-plain [] at v n w k e = cc
+digits-plain (b ∷ bs) at v n w k e =
+    by-pick (isDigit b) (digits bs (at + 1) (push v b)) (num false v at) (num n w k) e (λ t q. digits-plain bs (at + 1) (push v b) n w k q) (λ t q. cc)
+
+positive-plain : (l : List ℕ) (at : ℕ) (n : Bool) (w k : ℕ) → positive l at ≡ num n w k → n ≡ false
+unfolding positive
+positive-plain [] at n w k e = nonsense (cc)
+positive-plain (b ∷ bs) at n w k e = by-pick (pick (leb 49 b) (leb b 57) false) (digits (b ∷ bs) at 0) (stuck at) (num n w k) e (λ t q. digits-plain (b ∷ bs) at 0 n w k q) (λ t q. nonsense (cc))
+
+number-plain : (l : List ℕ) (at : ℕ) (n : Bool) (w k : ℕ) → number false l at ≡ num n w k → n ≡ false
+unfolding number
+number-plain [] at n w k e = nonsense (cc)
+number-plain (b ∷ bs) at n w k e =
+    by-pick (eqb b 48) (num false 0 (at + 1)) _ (num n w k) e (λ t q. cc) (λ t q. positive-plain (b ∷ bs) at n w k q)
+
+pub field-plain : (s : List ℕ) (at : ℕ) (n : Bool) (w k : ℕ) → field false s at ≡ num n w k → n ≡ false
+unfolding field
+field-plain s at n w k e = by-pick (eqb (getD s at 0) 32) _ _ _ e (λ t q. number-plain (drop (at + 1) s) (at + 1) n w k q) (λ t q. nonsense (cc))

@@ -1,0 +1,4 @@
+pub mod CellLaws
+pub mod CountLaws
+pub mod PartLaws
+pub mod SignedLaws

@@ -1,0 +1,59 @@
+-- Laws of the tests of single cells: each way through such a test.
+-- Assumes nothing.
+use Prim.Native.Nat.{ℕ, _+_, _≤_, _<_}
+use mathlib.Core.Path.{_≡_, refl, sym, _∙_, ap}
+use mathlib.Core.Bool.{Bool, true, false, not, true≢false}
+use mathlib.Core.List.{List}
+use lib.Dec.{ltb, leb, eqb}
+use lib.ListN.{getD, drop}
+use borrow.Author.Tests.{lt-ltb, le-ltb, eq-eqb, ne-eqb}
+use Rattle.meaning.specs.Lists.{elem}
+use Rattle.meaning.specs.Machine.State.{order}
+use Rattle.parts.specs.Parts.{workIn, deadlineIn}
+use Rattle.machine.specs.Stands.{clockMost, noJob, queueOf}
+use Rattle.machine.specs.ByCell.{clockRight, timely, unused, jobRight, Tells}
+use Rattle.machine.specs.declared.Job.{Job}
+
+pub clock-has : (cs : List ℕ) (n k : ℕ) → k < n → leb (getD cs k 0) 32000 ≡ clockRight cs n k
+clock-has cs n k h = rw (lt-ltb k n h)
+
+pub clock-lacks : (cs : List ℕ) (n k : ℕ) → n ≤ k → eqb (getD cs k 0) 0 ≡ clockRight cs n k
+clock-lacks cs n k h = rw (le-ltb k n h)
+
+pub timely-work : (t : List ℕ) (j : Job) → j .done < workIn t (j .task) → ltb (j .age) (deadlineIn t (j .task)) ≡ timely t j
+timely-work t j h = rw (lt-ltb (j .done) (workIn t (j .task)) h)
+
+pub timely-done : (t : List ℕ) (j : Job) → workIn t (j .task) ≤ j .done → false ≡ timely t j
+timely-done t j h = rw (le-ltb (j .done) (workIn t (j .task)) h)
+
+pub unused-age : (j : Job) → j .task ≡ 0 → j .done ≡ 0 → eqb (j .age) 0 ≡ unused j
+unused-age j a b = rw (eq-eqb (j .task) 0 a, eq-eqb (j .done) 0 b)
+
+pub unused-done : (j : Job) → j .task ≡ 0 → (j .done ≡ 0 → ⊥) → false ≡ unused j
+unused-done j a b = rw (eq-eqb (j .task) 0 a, ne-eqb (j .done) 0 b)
+
+pub unused-task : (j : Job) → (j .task ≡ 0 → ⊥) → false ≡ unused j
+unused-task j a = rw (ne-eqb (j .task) 0 a)
+
+module _ (t : List ℕ) (js : List Job) (n k : ℕ) where
+  pub job-queued : k < n → timely t (getD js k noJob) ≡ true → (b : Bool) → elem (getD js k noJob .task) (drop (k + 1) (order (queueOf js n))) ≡ b → not b ≡ jobRight t js n k
+  job-queued h e b q = rw (lt-ltb k n h, e, q)
+
+  pub job-untimely : k < n → timely t (getD js k noJob) ≡ false → false ≡ jobRight t js n k
+  job-untimely h e = rw (lt-ltb k n h, e)
+
+  pub job-behind : n ≤ k → unused (getD js k noJob) ≡ jobRight t js n k
+  job-behind h = rw (le-ltb k n h)
+
+-- what a test says of a fact, by its two cases
+pub tells-by : {P : Type 0} (r : Bool) → (r ≡ true → P) → (r ≡ false → P → ⊥) → Tells r P
+tells-by true f g = f refl
+tells-by false f g = g refl
+
+pub told-so : {P : Type 0} (r : Bool) → Tells r P → r ≡ true → P
+told-so true h e = h
+told-so false h e = absurd (true≢false (sym e))
+
+pub told-not : {P : Type 0} (r : Bool) → Tells r P → r ≡ false → P → ⊥
+told-not true h e = absurd (true≢false e)
+told-not false h e = h

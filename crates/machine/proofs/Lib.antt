@@ -1,0 +1,13 @@
+pub mod Arrays
+pub mod AllCells
+pub mod CellTests
+pub mod ClockLaws
+pub mod Searches
+pub mod QueueLaws
+pub mod JobLaws
+pub mod LendLaws
+pub mod StepLaws
+pub mod SeenLaws
+pub mod PlaceLaws
+pub mod Walked
+pub mod Unique

@@ -1,0 +1,36 @@
+use mathlib.Core.Path.{_≡_, sym, _∙_, ap}
+use Rattle.machine.proofs.CellTests.{told-so, told-not}
+use borrow.Author.Needs.{needs}
+use Rattle.machine.proofs.edge.Statement.{statement}
+use Rattle.machine.proofs.edge.Tie as tie
+use Rattle.machine.proofs.edge.Reads as reads
+use Rattle.machine.proofs.edge.Lts as lts
+use Rattle.machine.proofs.judge.is_usable.Reads as is-usable-reads
+use Rattle.machine.proofs.steps.edge_given.Reads as edge-given-reads
+use Rattle.machine.proofs.steps.refused.Reads as refused-reads
+
+-- src/lib.rt:74:8
+is-usable-requires : tie.Need-is-usable-requires
+is-usable-requires c κs = search needs
+
+-- src/lib.rt:75:9
+edge-given-requires : tie.Need-edge-given-requires
+edge-given-requires c κs = told-so (c .before .is-usable .result) (c .before .is-usable .ensures) (c .if1 .taken)
+
+-- src/lib.rt:75:9
+returns : tie.Need-returns
+returns c = let u = told-so (c .before .before .is-usable .result) (c .before .before .is-usable .ensures) (c .before .if1 .taken) in
+    record { unusable = λ h. absurd (h u); usable = λ h. c .edge-given .ensures }
+
+-- src/lib.rt:77:5
+refused-requires : tie.Need-refused-requires
+refused-requires c κs = search needs
+
+-- src/lib.rt:71:1
+returns-2 : tie.Need-returns-2
+returns-2 c = let h = told-not (c .before .before .is-usable .result) (c .before .before .is-usable .ensures) (c .before .if1 .left) in
+    record { unusable = λ g. c .refused .ensures; usable = λ u. absurd (h u) }
+
+pub edge-spec : {M : Type 1} → statement M
+edge-spec =
+    tie.close (tie.spec is-usable-requires edge-given-requires returns refused-requires returns-2)

@@ -1,0 +1,24 @@
+-- What the inner step functions say: for their contracts, not for a reader to believe.
+-- Assumes nothing.
+use Prim.Native.Nat.{ℕ}
+use mathlib.Core.List.{List}
+use lib.ListN.{length}
+use Rattle.meaning.specs.Model.{Model, locationAt, releases}
+use Rattle.meaning.specs.Machine.State.{order}
+use Rattle.meaning.specs.Machine.Release.{overflowsAny, putAll}
+use Rattle.meaning.specs.Text.Choice.{pick}
+use Rattle.machine.specs.Stands.{queueOf, cellsOf}
+use Rattle.machine.specs.Promise.{Said, went, overflow}
+use Rattle.machine.specs.declared.State.{State}
+
+-- an allowed edge to location l, with the clocks after its resets
+abbrev pub movedSaid : Model → State → ℕ → List ℕ → Said
+movedSaid m s l cs =
+    pick (overflowsAny m (releases (locationAt m l)) (order (queueOf (s .jobs) (s .count))))
+    (overflow s)
+    (went (record {
+      location = l;
+      clocks = cs;
+      jobs = cellsOf (putAll m (releases (locationAt m l)) (queueOf (s .jobs) (s .count)));
+      count = length (putAll m (releases (locationAt m l)) (queueOf (s .jobs) (s .count)));
+    }))

@@ -5,7 +5,7 @@ ghost use Rattle.meaning.specs.Machine.Step.{tick, edge};
 ghost use Rattle.machine.specs.Promise.{Stepped, Started, Placing};
 
 mod clocks;
-mod judge;
+pub mod judge;
 mod listed;
 mod queue;
 mod steps;

@@ -1,0 +1,10 @@
+pub mod NumberLaws
+pub mod NarrowLaws
+pub mod RangeLaws
+pub mod LoopLaws
+pub mod WrittenLaws
+pub mod TableLaws
+pub mod HeadLaws
+pub mod RuleLaws
+pub mod PlaceLaws
+pub mod MoveLaws

@@ -1,0 +1,3 @@
+pub mod Narrowed
+pub mod Moves
+pub mod Rules

@@ -1,0 +1,4 @@
+pub mod Laws
+pub mod Unique
+pub mod PutRows
+pub mod WroteLaws

@@ -1,0 +1,5 @@
+pub mod Marked
+pub mod Rows
+pub mod Held
+pub mod Meant
+pub mod Wrote

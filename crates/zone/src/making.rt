@@ -1,0 +1,89 @@
+// The zones that are made: the widest of a location and queue, and the one of exactly one state.
+ghost use lib.ListN.{take};
+ghost use Rattle.meaning.specs.Text.ModelReader.{Given};
+ghost use Rattle.meaning.specs.Text.ModelTable.{decode};
+ghost use Rattle.machine.specs.Stands as S;
+ghost use Rattle.zone.specs.Promise.{RightCells, WidestZone, ExactZone, NotMade, MadeWidest, MadeExact};
+ghost use Rattle.meaning.specs.Model.{Model};
+use crate::Made;
+use crate::Zone;
+use crate::exact::no_bounds;
+use crate::exact::of_clocks;
+use crate::exact::tasks_of;
+use crate::exact::with_jobs;
+use crate::order::is_order;
+use machine::State;
+use machine::judge::is_lendable;
+
+// Refusal 13, and a zone of nothing.
+pub fn not_made() -> Made
+    ensures { λ r. ⌜ NotMade r ⌝ }
+{
+    let tasks = [0u32; 6];
+    let bounds = [0i32; 289];
+    let zone = Zone {
+        location: 0,
+        tasks,
+        count: 0,
+        bounds,
+    };
+    Made { refusal: 13, zone }
+}
+
+// The widest zone of a location and queue: it has no bounds.
+pub fn widest_zone(location: u32, tasks: [u32; 6], count: u32) -> Zone
+    ensures { λ r. ⌜ ((m : Model) → RightCells m location tasks count → WidestZone m location (take count tasks) r) ⌝ }
+{
+    let bounds = no_bounds();
+    Zone {
+        location,
+        tasks,
+        count,
+        bounds,
+    }
+}
+
+// The zone that holds exactly the given state.
+pub fn exact_zone(model: &[u32], state: State) -> Zone
+    requires { ⌜ Given (now model) × S.Lendable (decode (now model)) state ⌝ }
+    ensures { λ r. ⌜ ExactZone (decode (now (model .entry))) (S.stateOf (decode (now (model .entry))) state) r ⌝ }
+{
+    let location = state.location;
+    let clocks = state.clocks;
+    let jobs = state.jobs;
+    let count = state.count;
+    let n = parts::clocks(model) as usize;
+    let first = of_clocks(clocks, n);
+    let bounds = with_jobs(first, n, jobs, count as usize);
+    let tasks = tasks_of(jobs);
+    Zone {
+        location,
+        tasks,
+        count,
+        bounds,
+    }
+}
+
+// The widest zone, or refusal 13, over a table that a text gives.
+pub fn widest_given(model: &[u32], location: u32, tasks: [u32; 6], count: u32) -> Made
+    requires { ⌜ Given (now model) ⌝ }
+    ensures { λ r. ⌜ MadeWidest (now (model .entry)) location tasks count r ⌝ }
+{
+    if is_order(model, location, tasks, count) {
+        let zone = widest_zone(location, tasks, count);
+        return Made { refusal: 0, zone };
+    }
+    not_made()
+}
+
+// The zone of exactly one state, or refusal 13, over a table that a text gives.
+pub fn exactly_given(model: &[u32], state: State) -> Made
+    requires { ⌜ Given (now model) ⌝ }
+    ensures { λ r. ⌜ MadeExact (now (model .entry)) state r ⌝ }
+{
+    if is_lendable(model, state) {
+        let zone = exact_zone(model, state);
+        return Made { refusal: 0, zone };
+    }
+    not_made()
+}

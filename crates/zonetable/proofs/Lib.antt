@@ -1,0 +1,10 @@
+pub mod RowLaws
+pub mod LengthLaws
+pub mod Dense
+pub mod SoundGiven
+pub mod GivenSound
+pub mod Deciding
+pub mod TestLaws
+pub mod ZoneTests
+pub mod EntryLaws
+pub mod ZoneParts

@@ -37,7 +37,7 @@ fn aged(jobs: [Job; 6], count: usize, from: usize, works: bool) -> Job
     Job {
         task: job.task,
         done: job.done,
-        age: job.age + 1,
+        age: job.age + 1, // kept on: only a new job starts at 0
     }
 }
 

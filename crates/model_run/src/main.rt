@@ -81,7 +81,27 @@ fn show_next(room: &mut [u8]) -> bool {
     true
 }
 
+// Refusals that no text gets: 11 for a table one cell short, 13 for a table that no text gives, and 11
+// for a buffer one byte short of a text of 27 bytes.
+fn show_rooms() {
+    let text = b"PO 2\nCK 0\nTK 1 1 0\nLO 0\nEN\n";
+    let mut small = [0u32; 1091];
+    if let Read::Refused(number, place) = model::reading::read_model(text, &mut small) {
+        print_refusal(number, place);
+    }
+    let mut table = [0u32; 1092];
+    let mut buffer = [0u8; 26];
+    if let Written::Refused(number, place) = model::writing::write_model(&table, &mut buffer) {
+        print_refusal(number, place);
+    }
+    model::reading::read_model(text, &mut table);
+    if let Written::Refused(number, place) = model::writing::write_model(&table, &mut buffer) {
+        print_refusal(number, place);
+    }
+}
+
 fn main() {
+    show_rooms();
     let mut room = [0u8; 65536];
     let mut k: usize = 0;
     while k < 1000 {

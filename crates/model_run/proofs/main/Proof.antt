@@ -10,12 +10,16 @@ use Rattle.model_run.proofs.main.Tie as tie
 use Rattle.model_run.proofs.main.Reads as reads
 use Rattle.model_run.proofs.main.Lts as lts
 use Rattle.model_run.proofs.show_next.Reads as show-next-reads
+use Rattle.model_run.proofs.show_rooms.Reads as show-rooms-reads
 
 abbrev Inv-loop : tie.InvT-loop
 Inv-loop room₀ k₀ room k = (k ≤ 1000) × (length room ≡ 65536)
 
 abbrev μ-loop : tie.MeasureT-loop
 μ-loop room₀ k₀ room k = 1000 - k
+
+show-rooms-requires : tie.Need-show-rooms-requires Inv-loop μ-loop
+show-rooms-requires c κs = search needs
 
 loop-holds : tie.Need-loop-holds Inv-loop μ-loop
 loop-holds c = search needs
@@ -50,6 +54,7 @@ main-spec =
     (tie.spec
     Inv-loop
     μ-loop
+    show-rooms-requires
     loop-holds
     slice-aggregate-show-next
     show-next-requires

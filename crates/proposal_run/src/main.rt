@@ -94,7 +94,40 @@ fn next_text(room: &mut [u8]) -> usize {
     n
 }
 
+fn show_read(model: &[u32], text: &[u8], table: &mut [u32]) {
+    if let Read::Refused(number, place) = proposal::reading::read_proposal(model, text, table) {
+        print_refusal(2, number, place);
+    }
+}
+
+fn show_written(model: &[u32], table: &[u32], buffer: &mut [u8]) {
+    if let Written::Refused(number, place) = proposal::writing::write_proposal(
+        model,
+        table,
+        buffer,
+    ) {
+        print_refusal(2, number, place);
+    }
+}
+
+// Refusals that no text gets: 13 for a model's table that no text gives, 11 for a table one cell short,
+// 13 for a table that no text gives, and 11 for a buffer one byte short of a text of 15 bytes.
+fn show_rooms() {
+    let text = b"ZN 1\nGO 0 0\nEN\n";
+    let mut model = [0u32; 1092];
+    let mut small = [0u32; 47022];
+    let mut table = [0u32; 47023];
+    let mut buffer = [0u8; 14];
+    show_read(&model, text, &mut small);
+    model::reading::read_model(b"PO 2\nCK 0\nTK 1 1 0\nLO 0\nEN\n", &mut model);
+    show_read(&model, text, &mut small);
+    show_written(&model, &table, &mut buffer);
+    show_read(&model, text, &mut table);
+    show_written(&model, &table, &mut buffer);
+}
+
 fn main() {
+    show_rooms();
     let mut first = [0u8; 65536];
     let mut second = [0u8; 65536];
     let mut k: usize = 0;

@@ -11,12 +11,16 @@ use Rattle.proposal_run.proofs.main.Reads as reads
 use Rattle.proposal_run.proofs.main.Lts as lts
 use Rattle.proposal_run.proofs.next_text.Reads as next-text-reads
 use Rattle.proposal_run.proofs.show_fronts.Reads as show-fronts-reads
+use Rattle.proposal_run.proofs.show_rooms.Reads as show-rooms-reads
 
 abbrev Inv-loop : tie.InvT-loop
 Inv-loop first₀ second₀ k₀ first second k = (k ≤ 1000) × (length first ≡ 65536) × (length second ≡ 65536)
 
 abbrev μ-loop : tie.MeasureT-loop
 μ-loop first₀ second₀ k₀ first second k = 1000 - k
+
+show-rooms-requires : tie.Need-show-rooms-requires Inv-loop μ-loop
+show-rooms-requires c κs = search needs
 
 loop-holds : tie.Need-loop-holds Inv-loop μ-loop
 loop-holds c = search needs
@@ -60,6 +64,7 @@ main-spec =
     (tie.spec
     Inv-loop
     μ-loop
+    show-rooms-requires
     loop-holds
     slice-aggregate-next-text
     next-text-requires

@@ -102,10 +102,10 @@ zeros-entry i j = entry-zero (replicate 289 (pos 0)) i j (λ h k. zerosZ 289 (i 
 
 module _ (m : Model) (z : Z.Zone) (st : Step) (rm : RangedModel m) (rz : RangedZone m z) (few : variables m (z .order) ≤ 17) (t : Tight) (w : Narrowed (sourceBounds m z st) t)
     (p : Plan) (q : Planned m z st p) (after : variables m (homeOf p .order) ≤ 17) where
-  order-is : homeOf p .order ≡ homeAt m z st .order
+  pub order-is : homeOf p .order ≡ homeAt m z st .order
   order-is = ap (λ (h : Home). h .order) (q .home)
 
-  many-is : p .variables ≡ variables m (homeAt m z st .order)
+  pub many-is : p .variables ≡ variables m (homeAt m z st .order)
   many-is = q .many ∙ ap (variables m) order-is
 
   -- it is empty: no state is shown
@@ -119,10 +119,10 @@ module _ (m : Model) (z : Z.Zone) (st : Step) (rm : RangedModel m) (rz : RangedZ
   }
 
   module _ (e : t .empty ≡ false) where
-    solves : Solves (Sol (at (t .m)) 17) (sourceBounds m z st)
+    pub solves : Solves (Sol (at (t .m)) 17) (sourceBounds m z st)
     solves = w .solves e
 
-    source : (x : ℕ → ℕ) → Sol (at (t .m)) 17 x → Source m z st x
+    pub source : (x : ℕ → ℕ) → Sol (at (t .m)) 17 x → Source m z st x
     source x s = source-iff m z st (Sol (at (t .m)) 17) solves x .0 s
 
     -- the plan's tables take solutions to values
@@ -150,13 +150,13 @@ module _ (m : Model) (z : Z.Zone) (st : Step) (rm : RangedModel m) (rz : RangedZ
     }
 
     -- the image of a valuation, by the tables and by the plan
-    image : (x y : ℕ → ℕ) → ((i : ℕ) → i < variables m (homeAt m z st .order) → M.Shifted (M.off m (planAt m z st) i) (x (M.from m (planAt m z st) i)) (y i))
+    pub image : (x y : ℕ → ℕ) → ((i : ℕ) → i < variables m (homeAt m z st .order) → M.Shifted (M.off m (planAt m z st) i) (x (M.from m (planAt m z st) i)) (y i))
         → Image (p .variables) (I.var (p .from)) (ent (p .off)) x y
     image x y f a h =
         subst (λ (c : ℤ). y a + under c ≡ x (I.var (p .from) a) + over c) (sym (q .off a h))
         (subst (λ (k : ℕ). y a + under (M.off m (planAt m z st) a) ≡ x k + over (M.off m (planAt m z st) a)) (sym (q .from a h)) (f a (omega (arith, many-is))))
 
-    image-back : (x y : ℕ → ℕ) → Image (p .variables) (I.var (p .from)) (ent (p .off)) x y
+    pub image-back : (x y : ℕ → ℕ) → Image (p .variables) (I.var (p .from)) (ent (p .off)) x y
         → (i : ℕ) → i < p .variables → M.Shifted (M.off m (planAt m z st) i) (x (M.from m (planAt m z st) i)) (y i)
     image-back x y f a h =
         subst (λ (c : ℤ). y a + under c ≡ x (M.from m (planAt m z st) a) + over c) (q .off a h)

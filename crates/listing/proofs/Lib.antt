@@ -1,0 +1,3 @@
+pub mod EdgeLaws
+pub mod FindLaws
+pub mod StepLaws

@@ -1,0 +1,16 @@
+pub mod ModelLaws
+pub mod FoundLaws
+pub mod ClaimLaws
+pub mod HomeLaws
+pub mod OverflowLaws
+pub mod JudgeLaws
+pub mod KindLaws
+pub mod DrawLaws
+pub mod StartLaws
+pub mod StartFound
+pub mod PlaceLaws
+pub mod TryLaws
+pub mod CountLaws
+pub mod TriedLaws
+pub mod Unique
+pub mod Promise

@@ -1,0 +1,84 @@
+// From what is found of the obligations to the answer.
+ghost use mathlib.Core.Path.{_≡_};
+ghost use Rattle.meaning.specs.Text.ModelReader.{Given};
+ghost use Rattle.meaning.specs.Text.ModelTable.{decode};
+ghost use Rattle.meaning.specs.Text.ProposalReader as reader;
+ghost use Rattle.verdict.specs.Answers as Answers;
+ghost use Rattle.verdict.specs.Answers.{Answered, SaysAccepted};
+ghost use Rattle.verdict.specs.Failing.{failing};
+use crate::answer::Answer;
+use crate::answer::Fault;
+use crate::answer::Found;
+use crate::found::is_clear;
+use crate::found::no_state;
+use crate::start::try_start;
+use crate::trying::try_zone;
+use zonetable::counts::zones as zones_in;
+
+// Refusal 13.
+pub fn refused() -> Answer
+    ensures { λ r. ⌜ r ≡ Answers.refused ⌝ }
+{
+    Answer {
+        refusal: 13,
+        number: 0,
+        zone: 0,
+        place: 0,
+        fault: Fault::Nothing,
+        state: no_state(),
+    }
+}
+
+// Accepted, with the number of obligations tried.
+fn accepted(number: u32) -> Answer
+    ensures { λ r. ⌜ SaysAccepted number r ⌝ }
+{
+    Answer {
+        refusal: 0,
+        number,
+        zone: 0,
+        place: 0,
+        fault: Fault::Nothing,
+        state: no_state(),
+    }
+}
+
+// Obligation `number` fails so.
+fn failed(number: u32, zone: u32, place: u32, found: Found) -> Answer
+    ensures { λ r. ⌜ r ≡ failing number zone place found ⌝ }
+{
+    let fault = found.fault;
+    let state = found.state;
+    Answer {
+        refusal: 0,
+        number,
+        zone,
+        place,
+        fault,
+        state,
+    }
+}
+
+// The answer on tables that texts give. The counter goes up with every obligation that is tried.
+pub fn check_given(model: &[u32], zones: &[u32]) -> Answer
+    requires { ⌜ Given (now model) × reader.Given (decode (now model)) (now zones) ⌝ }
+    ensures { λ r. ⌜ Answered (now (model .entry)) (now (zones .entry)) r ⌝ }
+{
+    let first = try_start(model, zones);
+    if !is_clear(first) {
+        return failed(1, 1, 0, first);
+    }
+    let many = zones_in(zones);
+    let mut n: u32 = 0;
+    let mut tried: u32 = 1;
+    while n < many {
+        n += 1;
+        let t = try_zone(model, zones, n, tried);
+        let found = t.found;
+        if !is_clear(found) {
+            return failed(t.number, n, t.place, found);
+        }
+        tried = t.number;
+    }
+    accepted(tried)
+}

@@ -1,0 +1,125 @@
+// The kinds by which an obligation fails, each tried where those before it do not apply.
+ghost use mathlib.Core.Path.{_≡_};
+ghost use mathlib.Core.Bool.{true, false};
+ghost use Prim.Native.Nat.{ℕ, _≤_, _<_};
+ghost use Rattle.meaning.specs.Zones.Zone as Z;
+ghost use Rattle.meaning.specs.Zones.Zone.{Zone};
+ghost use Rattle.meaning.specs.Zones.Steps.{Step};
+ghost use Rattle.meaning.specs.Zones.Reached.{homeOfZone};
+ghost use Rattle.meaning.specs.Text.ModelReader.{Given};
+ghost use Rattle.meaning.specs.Text.ModelTable.{decode};
+ghost use Rattle.meaning.specs.Text.ProposalReader as reader;
+ghost use Rattle.meaning.specs.Text.ProposalTable as table;
+ghost use Rattle.meaning.proofs.Exact.Reached.{stepOverflows};
+ghost use Rattle.matrix.specs.Moves.{stepOf, Listed};
+ghost use Rattle.zonetable.specs.Sound.{zonesIn};
+ghost use Rattle.shown.specs.Drawn.{Drawn, DrawnBy, FirstLate};
+ghost use Rattle.verdict.specs.Judged.{following, Judged};
+ghost use Rattle.verdict.specs.Kinds.{LateBy, BrokenBy, BrokenIs};
+use crate::answer::Fault;
+use crate::answer::Found;
+use crate::found::holds;
+use crate::home::same_home;
+use crate::overflow::overflows;
+use bounds::Tight;
+use bounds::claimed;
+use bounds::first_broken;
+use matrix::Move;
+use parts::clocks;
+use parts::deadline;
+use shown::first_late;
+use shown::smallest;
+use shown::smallest_apart;
+use zones::Plan;
+
+// Where the bounds of a zone stand in the proposal's table.
+const BOUNDS: usize = 384;
+// How many cells they take.
+const BOUNDS_OF_ZONE: usize = 289;
+
+// The smallest state in which the job at a late position has the age D.
+fn late_at(model: &[u32], t: Tight, plan: Plan, late: u32) -> Found
+    requires { ⌜ Given (now model) ⌝ }
+    requires { ⌜ LateBy (decode (now model)) t plan late ⌝ }
+    ensures { λ r. ⌜ ((p : Z.Proposal) (n x c : ℕ) (z : Zone) (st : Step) → Drawn (decode (now (model .entry))) z st t plan → stepOverflows (decode (now (model .entry))) (homeOfZone z) st ≡ false → FirstLate (decode (now (model .entry))) z st late → Judged (decode (now (model .entry))) p (following n x z st c) r) ⌝ }
+{
+    let k = (late - 1) as usize;
+    let age = (clocks(model) as usize) + 2 + 2 * k;
+    let tasks = plan.tasks;
+    let d = deadline(model, tasks[k]) as i32;
+    Found {
+        fault: Fault::Late(late),
+        state: smallest_apart(model, t, plan, age, 0, d),
+    }
+}
+
+// The smallest state that breaks the claimed zone's bound between i and j.
+fn broken_at(
+    zones: &[u32],
+    model: &[u32],
+    t: Tight,
+    plan: Plan,
+    start: usize,
+    i: usize,
+    j: usize,
+) -> Found
+    requires { ⌜ Given (now model) ⌝ }
+    requires { ⌜ BrokenBy (decode (now model)) (now zones) t plan start i j ⌝ }
+    ensures { λ r. ⌜ ((z : Zone) (st : Step) → Drawn (decode (now (model .entry))) z st t plan → BrokenIs (decode (now (model .entry))) (now (zones .entry)) z st start i j r) ⌝ }
+{
+    let c = claimed(zones, start, i, j);
+    Found {
+        fault: Fault::Breaks(i as u32, j as u32),
+        state: smallest_apart(model, t, plan, i, j, c + 1),
+    }
+}
+
+// Kinds 4 and 5, with a claim that is not 0.
+fn by_claim(model: &[u32], zones: &[u32], t: Tight, plan: Plan, claim: u32) -> Found
+    requires { ⌜ Given (now model) × reader.Given (decode (now model)) (now zones) × (1 ≤ claim) × (claim ≤ zonesIn (now zones)) ⌝ }
+    requires { ⌜ DrawnBy (decode (now model)) t plan ⌝ }
+    ensures { λ r. ⌜ ((n x : ℕ) (z : Zone) (st : Step) → Drawn (decode (now (model .entry))) z st t plan → stepOverflows (decode (now (model .entry))) (homeOfZone z) st ≡ false → FirstLate (decode (now (model .entry))) z st 0 → Judged (decode (now (model .entry))) (table.decode (now (zones .entry))) (following n x z st claim) r) ⌝ }
+{
+    let tasks = plan.tasks;
+    if !same_home(zones, claim, plan.location, tasks, plan.count) {
+        return Found {
+            fault: Fault::Elsewhere,
+            state: smallest(model, t, plan),
+        };
+    }
+    let start = BOUNDS + BOUNDS_OF_ZONE * ((claim - 1) as usize);
+    let m = t.m;
+    let from = plan.from;
+    let off = plan.off;
+    let b = first_broken(&m, plan.variables, from, off, zones, start);
+    if b.found {
+        return broken_at(zones, model, t, plan, start, b.i, b.j);
+    }
+    holds()
+}
+
+// The first kind that applies to a step that some state takes: 1 a miss, 2 an overflow, 3 the claim is 0,
+// then those of the claimed zone. At an overflow nothing is reached, so nothing is late.
+pub fn by_kind(model: &[u32], zones: &[u32], t: Tight, plan: Plan, step: Move, claim: u32) -> Found
+    requires { ⌜ Given (now model) × reader.Given (decode (now model)) (now zones) × (claim ≤ zonesIn (now zones)) ⌝ }
+    requires { ⌜ DrawnBy (decode (now model)) t plan ⌝ }
+    ensures { λ r. ⌜ ((n x : ℕ) (z : Zone) → Listed (decode (now (model .entry))) z step → Drawn (decode (now (model .entry))) z (stepOf step) t plan → Judged (decode (now (model .entry))) (table.decode (now (zones .entry))) (following n x z (stepOf step) claim) r) ⌝ }
+{
+    if overflows(model, step) {
+        return Found {
+            fault: Fault::Over,
+            state: smallest(model, t, plan),
+        };
+    }
+    let late = first_late(model, t, plan);
+    if late != 0 {
+        return late_at(model, t, plan, late);
+    }
+    if claim == 0 {
+        return Found {
+            fault: Fault::Unclaimed,
+            state: smallest(model, t, plan),
+        };
+    }
+    by_claim(model, zones, t, plan, claim)
+}

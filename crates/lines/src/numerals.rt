@@ -73,7 +73,7 @@ fn read_positive(s: &[u8], at: usize) -> Number
 }
 
 // The number at `at`, with a minus where one may stand.
-pub fn read_number(s: &[u8], at: usize, minus: bool) -> Number
+pub(crate) fn read_number(s: &[u8], at: usize, minus: bool) -> Number
     ensures { λ r. ⌜ meant r ≡ number minus (drop at (now (s .entry))) at ⌝ }
 {
     if s.len() <= at {

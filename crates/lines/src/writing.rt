@@ -29,7 +29,7 @@ fn write_digits(buf: &mut [u8], at: usize, v: u32, k: usize) -> usize
 }
 
 // A number with its sign.
-pub fn write_number(buf: &mut [u8], at: usize, minus: bool, size: u32) -> usize
+pub(crate) fn write_number(buf: &mut [u8], at: usize, minus: bool, size: u32) -> usize
     requires { ⌜ at + length (numText minus size) ≤ length (now buf) ⌝ }
     ensures { λ r. ⌜ Put (now (buf .entry)) at (numText minus size) (now (buf .exit)) r ⌝ }
 {
@@ -41,7 +41,7 @@ pub fn write_number(buf: &mut [u8], at: usize, minus: bool, size: u32) -> usize
 }
 
 // A number that is kept with `below` added.
-pub fn write_kept(buf: &mut [u8], at: usize, below: u32, v: u32) -> usize
+pub(crate) fn write_kept(buf: &mut [u8], at: usize, below: u32, v: u32) -> usize
     requires { ⌜ at + length (keptText below v) ≤ length (now buf) ⌝ }
     ensures { λ r. ⌜ Put (now (buf .entry)) at (keptText below v) (now (buf .exit)) r ⌝ }
 {

@@ -20,7 +20,7 @@ fn grown(clocks: [u32; 4], n: usize, k: usize) -> u32
 }
 
 // The clocks after a tick: each of the first n grows by 1.
-pub fn grow(clocks: [u32; 4], n: usize) -> [u32; 4]
+pub(crate) fn grow(clocks: [u32; 4], n: usize) -> [u32; 4]
     requires { ⌜ (n ≤ 4) × Small clocks ⌝ }
     ensures { λ r. ⌜ r ≡ padded 0 4 (map suc (take n clocks)) ⌝ }
 {
@@ -45,7 +45,7 @@ fn limit_met(table: &[u32], location: u32, clock: u32, value: u32) -> bool
 }
 
 // Do the clocks meet the limits of a location?
-pub fn limits_met(table: &[u32], location: u32, clocks: [u32; 4]) -> bool
+pub(crate) fn limits_met(table: &[u32], location: u32, clocks: [u32; 4]) -> bool
     ensures { λ r. ⌜ r ≡ every (limitTest clocks) (limitsOf (now (table .entry)) location) ⌝ }
 {
     let mut k: usize = 0;
@@ -97,7 +97,7 @@ fn row_met(table: &[u32], edge: u32, clocks: [u32; 4], x: usize) -> bool
 }
 
 // Does the guard of an edge hold of the clocks?
-pub fn guard_holds(table: &[u32], edge: u32, clocks: [u32; 4]) -> bool
+pub(crate) fn guard_holds(table: &[u32], edge: u32, clocks: [u32; 4]) -> bool
     requires { ⌜ Given (now table) × Small clocks ⌝ }
     ensures { λ r. ⌜ r ≡ every (boundTest clocks) (guardOf (now (table .entry)) edge) ⌝ }
 {
@@ -124,7 +124,7 @@ fn kept(table: &[u32], edge: u32, clock: u32, value: u32) -> u32
 }
 
 // The clocks after the resets of an edge.
-pub fn reset(table: &[u32], edge: u32, clocks: [u32; 4]) -> [u32; 4]
+pub(crate) fn reset(table: &[u32], edge: u32, clocks: [u32; 4]) -> [u32; 4]
     ensures { λ r. ⌜ r ≡ resetAll (resetsOf (now (table .entry)) edge) clocks ⌝ }
 {
     let mut r = clocks;

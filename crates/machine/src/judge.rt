@@ -37,7 +37,7 @@ fn clocks_right(clocks: [u32; 4], n: usize) -> bool
 }
 
 // Has the job work and time left?
-pub fn is_timely(table: &[u32], job: Job) -> bool
+pub(crate) fn is_timely(table: &[u32], job: Job) -> bool
     ensures { λ r. ⌜ r ≡ timely (now (table .entry)) job ⌝ }
 {
     if job.done < parts::work(table, job.task) {
@@ -117,14 +117,14 @@ pub fn is_lendable(table: &[u32], state: State) -> bool
 }
 
 // Is the table one that a text gives?
-pub fn is_given(table: &[u32]) -> bool
+pub(crate) fn is_given(table: &[u32]) -> bool
     ensures { λ r. ⌜ Tells r (Given (now (table .entry))) ⌝ }
 {
     model::writing::is_model(table)
 }
 
 // May the state be lent with this table?
-pub fn is_usable(table: &[u32], state: State) -> bool
+pub(crate) fn is_usable(table: &[u32], state: State) -> bool
     ensures { λ r. ⌜ Tells r (Usable (now (table .entry)) state) ⌝ }
 {
     if is_given(table) {

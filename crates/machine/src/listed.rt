@@ -22,7 +22,7 @@ pub struct Seen {
 }
 
 // Nothing is seen yet.
-pub fn begin() -> Seen
+pub(crate) fn begin() -> Seen
     ensures { λ r. ⌜ r ≡ startSeen ⌝ }
 {
     let marks = [false; 6];
@@ -90,7 +90,7 @@ fn take_in(table: &[u32], task: u32, k: usize, s: Seen, job: Job) -> Seen
 }
 
 // The work at one job, which has k ahead.
-pub fn look(table: &[u32], task: u32, k: usize, s: Seen, job: Job) -> Seen
+pub(crate) fn look(table: &[u32], task: u32, k: usize, s: Seen, job: Job) -> Seen
     ensures { λ r. ⌜ r ≡ lookOf (now (table .entry)) task k s job ⌝ }
 {
     if s.good {
@@ -130,7 +130,7 @@ fn position(k: usize, s: Seen) -> Placed
 }
 
 // The answer, of what a walk over all k jobs has found.
-pub fn finish(table: &[u32], task: u32, k: usize, s: Seen) -> Placed
+pub(crate) fn finish(table: &[u32], task: u32, k: usize, s: Seen) -> Placed
     requires { ⌜ Ended k s ⌝ }
     ensures { λ r. ⌜ Finished (now (table .entry)) task k s r ⌝ }
 {

@@ -53,7 +53,7 @@ fn job_after(jobs: [Job; 6], count: usize, finishes: bool, k: usize) -> Job
 }
 
 // The queue after a tick at which the head finishes and leaves, or goes on.
-pub fn serve(jobs: [Job; 6], count: usize, finishes: bool) -> [Job; 6]
+pub(crate) fn serve(jobs: [Job; 6], count: usize, finishes: bool) -> [Job; 6]
     requires { ⌜ (count ≤ 6) × Young jobs ⌝ }
     ensures { λ r. ⌜ r ≡ cellsOf (served finishes (queueOf jobs count)) ⌝ }
 {
@@ -71,7 +71,7 @@ pub fn serve(jobs: [Job; 6], count: usize, finishes: bool) -> [Job; 6]
 }
 
 // How many jobs are left after such a tick.
-pub fn left(count: usize, finishes: bool) -> usize
+pub(crate) fn left(count: usize, finishes: bool) -> usize
     ensures { λ r. ⌜ r ≡ leftOf count finishes ⌝ }
 {
     if finishes {
@@ -84,7 +84,7 @@ pub fn left(count: usize, finishes: bool) -> usize
 }
 
 // Is this tick the head's last?
-pub fn finishes(table: &[u32], jobs: [Job; 6], count: usize) -> bool
+pub(crate) fn finishes(table: &[u32], jobs: [Job; 6], count: usize) -> bool
     requires { ⌜ Given (now table) × (count ≤ 6) × Young jobs ⌝ }
     ensures { λ r. ⌜ r ≡ finishes (decode (now (table .entry))) (queueOf jobs count) ⌝ }
 {
@@ -104,7 +104,7 @@ fn is_late(table: &[u32], job: Job) -> bool
 }
 
 // The first position at fault in the queue; 0: none.
-pub fn first_late(table: &[u32], jobs: [Job; 6], count: usize) -> u32
+pub(crate) fn first_late(table: &[u32], jobs: [Job; 6], count: usize) -> u32
     requires { ⌜ Given (now table) × (count ≤ 6) ⌝ }
     ensures { λ r. ⌜ r ≡ late (decode (now (table .entry))) (queueOf jobs count) ⌝ }
 {
@@ -119,7 +119,7 @@ pub fn first_late(table: &[u32], jobs: [Job; 6], count: usize) -> u32
 }
 
 // Does a new job of a task beat a queued job? By the larger priority; or by fewer ticks left, and at equality by the larger number.
-pub fn beats(table: &[u32], task: u32, job: Job) -> bool
+pub(crate) fn beats(table: &[u32], task: u32, job: Job) -> bool
     ensures { λ r. ⌜ r ≡ beatsIn (now (table .entry)) task job ⌝ }
 {
     let other = job.task;
@@ -140,7 +140,7 @@ pub fn beats(table: &[u32], task: u32, job: Job) -> bool
 }
 
 // How many jobs of the queue stay ahead of a new job of a task: it goes in front of the first that it beats, else last.
-pub fn place_among(table: &[u32], task: u32, jobs: [Job; 6], count: usize) -> usize
+pub(crate) fn place_among(table: &[u32], task: u32, jobs: [Job; 6], count: usize) -> usize
     requires { ⌜ Given (now table) × (count ≤ 6) × Young jobs ⌝ }
     ensures { λ r. ⌜ r ≡ placeOf (decode (now (table .entry))) task (queueOf jobs count) ⌝ }
 {
@@ -194,7 +194,7 @@ fn insert(jobs: [Job; 6], count: usize, at: usize, job: Job) -> [Job; 6]
 }
 
 // Stands a job of the task at this place of the queue or behind it?
-pub fn is_queued(task: u32, jobs: [Job; 6], from: usize, count: usize) -> bool
+pub(crate) fn is_queued(task: u32, jobs: [Job; 6], from: usize, count: usize) -> bool
     requires { ⌜ (count ≤ 6) × (from ≤ count) ⌝ }
     ensures { λ r. ⌜ r ≡ elem task (drop from (order (queueOf jobs count))) ⌝ }
 {
@@ -217,7 +217,7 @@ pub struct Queue {
 }
 
 // One task is released, 0 for none; nothing more after an overflow.
-pub fn release(table: &[u32], queue: Queue, task: u32) -> Queue
+pub(crate) fn release(table: &[u32], queue: Queue, task: u32) -> Queue
     requires { ⌜ Given (now table) × (queue .count ≤ 6) × Young (queue .jobs) ⌝ }
     ensures { λ r. ⌜ r ≡ releasedBy (decode (now (table .entry))) task queue ⌝ }
 {

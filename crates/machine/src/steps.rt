@@ -28,7 +28,7 @@ use super::queue::release;
 use super::queue::serve;
 
 // A refusal, with the state as it was given.
-pub fn refused(state: State, number: u32) -> Reply
+pub(crate) fn refused(state: State, number: u32) -> Reply
     ensures { λ r. ⌜ said r ≡ Said.refused number 0 state ⌝ }
 {
     Reply {
@@ -38,7 +38,7 @@ pub fn refused(state: State, number: u32) -> Reply
 }
 
 // A state of nothing.
-pub fn no_state() -> State
+pub(crate) fn no_state() -> State
     ensures { λ r. ⌜ r ≡ noState ⌝ }
 {
     let none = Job {
@@ -99,7 +99,7 @@ fn ticked(table: &[u32], state: State, grown: [u32; 4]) -> Reply
 }
 
 // A tick: 12 if the clocks after it break a limit, then 14.
-pub fn tick_given(table: &[u32], state: State) -> Reply
+pub(crate) fn tick_given(table: &[u32], state: State) -> Reply
     requires { ⌜ Usable (now table) state ⌝ }
     ensures { λ r. ⌜ said r ≡ answered (decode (now (table .entry))) state tick ⌝ }
 {
@@ -146,7 +146,7 @@ fn moved(table: &[u32], state: State, to: u32, clocks: [u32; 4]) -> Reply
 }
 
 // An edge by its number: 12 if it isn't in the model, leaves another location, or its guard doesn't hold of the clocks before the resets.
-pub fn edge_given(table: &[u32], state: State, number: u32) -> Reply
+pub(crate) fn edge_given(table: &[u32], state: State, number: u32) -> Reply
     requires { ⌜ Usable (now table) state ⌝ }
     ensures { λ r. ⌜ said r ≡ answered (decode (now (table .entry))) state (edge number) ⌝ }
 {
@@ -168,7 +168,7 @@ pub fn edge_given(table: &[u32], state: State, number: u32) -> Reply
 }
 
 // The start: location 1, all clocks 0, and the job of location 1's task, if it has one.
-pub fn start_given(table: &[u32]) -> Reply
+pub(crate) fn start_given(table: &[u32]) -> Reply
     requires { ⌜ Given (now table) ⌝ }
     ensures { λ r. ⌜ said r ≡ Said.went (held (start (decode (now (table .entry))))) ⌝ }
 {

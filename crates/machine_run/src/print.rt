@@ -5,11 +5,11 @@ use machine::Job;
 use machine::Outcome;
 use machine::Reply;
 
-pub fn text(s: &[u8]) {
+pub(crate) fn text(s: &[u8]) {
     io::write_all(STDOUT_FILENO, s);
 }
 
-pub fn number(n: u32) {
+pub(crate) fn number(n: u32) {
     text(b" ");
     io::print_decimal(STDOUT_FILENO, n as u64);
 }
@@ -55,7 +55,7 @@ fn jobs(queue: [Job; 6], count: u32) {
     }
 }
 
-pub fn show(reply: Reply) {
+pub(crate) fn show(reply: Reply) {
     let came = reply.outcome;
     let state = reply.state;
     outcome(came);
@@ -85,7 +85,7 @@ fn sum_with(sum: u64, job: Job) -> u64
 }
 
 // The running sums of the jobs that have work done.
-pub fn sums(queue: [Job; 6]) {
+pub(crate) fn sums(queue: [Job; 6]) {
     let mut k: usize = 0;
     let mut sum: u64 = 0;
     text(b"sums");

@@ -56,7 +56,7 @@ fn play(table: &[u32], script: &[u32]) {
 }
 
 // The model of a text, and a script from its start.
-pub fn run(name: &[u8], text: &[u8], script: &[u32]) {
+pub(crate) fn run(name: &[u8], text: &[u8], script: &[u32]) {
     let mut table = [0; 1092];
     model::reading::read_model(text, &mut table);
     print::text(name);
@@ -90,7 +90,7 @@ fn thousand_of(table: &[u32]) -> Reply {
     reply
 }
 
-pub fn thousand() {
+pub(crate) fn thousand() {
     let mut table = [0; 1092];
     let text =
         b"PO 2\nCK 2\nTK 5 12 0\nTK 4 9 0\nLO 1\nIV 1 7\nLO 2\nIV 1 8\nED 1 2\nGU 0 1 -5\nRS 1\nED 2 1\nGU 0 1 -6\nRS 1\nEN\n";

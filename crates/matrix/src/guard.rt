@@ -10,7 +10,7 @@ use parts::bound;
 use parts::signed;
 
 // Each bound of the edge's guard, row by row.
-pub fn guard(table: &[u32], t: Tight, edge: u32) -> Tight
+pub(crate) fn guard(table: &[u32], t: Tight, edge: u32) -> Tight
     requires { ⌜ Given (now table) ⌝ }
     requires { ⌜ (1 ≤ edge) × (edge ≤ edges (now table)) ⌝ }
     requires { ⌜ Usable t ⌝ }

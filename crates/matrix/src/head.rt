@@ -13,7 +13,7 @@ use parts::clocks;
 use parts::work;
 
 // The head's done is at most C less 2; an empty queue goes on.
-pub fn head_goes_on(table: &[u32], t: Tight, tasks: [u32; 6], count: usize) -> Tight
+pub(crate) fn head_goes_on(table: &[u32], t: Tight, tasks: [u32; 6], count: usize) -> Tight
     requires { ⌜ Given (now table) ⌝ }
     requires { ⌜ count ≤ 6 ⌝ }
     requires { ⌜ Usable t ⌝ }
@@ -28,7 +28,7 @@ pub fn head_goes_on(table: &[u32], t: Tight, tasks: [u32; 6], count: usize) -> T
 }
 
 // It is at least C less 1; nothing finishes in an empty queue.
-pub fn head_finishes(table: &[u32], t: Tight, tasks: [u32; 6], count: usize) -> Tight
+pub(crate) fn head_finishes(table: &[u32], t: Tight, tasks: [u32; 6], count: usize) -> Tight
     requires { ⌜ Given (now table) ⌝ }
     requires { ⌜ count ≤ 6 ⌝ }
     requires { ⌜ Usable t ⌝ }

@@ -17,12 +17,9 @@ mod written;
 
 pub use moves::Move;
 pub use narrowing::narrow;
-pub use narrowing::widest;
 pub use numbers::less;
-pub use numbers::negated;
 pub use numbers::sum_ahead;
 pub use numbers::sum_at;
 pub use rule::Rule;
-pub use rule::rule_of;
 pub use states::step_matrix;
 pub use states::zone_matrix;

@@ -10,7 +10,7 @@ use bounds::Tight;
 use parts::limit;
 
 // Each limit of the location: after the tick the clock is 1 more, so before it at most the limit less 1.
-pub fn limits(table: &[u32], t: Tight, location: u32) -> Tight
+pub(crate) fn limits(table: &[u32], t: Tight, location: u32) -> Tight
     requires { ⌜ Given (now table) ⌝ }
     requires { ⌜ Usable t ⌝ }
     ensures { λ r. ⌜ Narrows (limitBounds (locationAt (decode (now (table .entry))) location .limits)) t r ⌝ }

@@ -9,7 +9,7 @@ use bounds::tighten;
 use bounds::top;
 
 // The matrix of which nothing is known.
-pub fn widest() -> Tight
+pub(crate) fn widest() -> Tight
     ensures { λ r. ⌜ Narrowed [] r ⌝ }
 {
     Tight {

@@ -14,7 +14,7 @@ pub fn less(a: u32, b: u32) -> i32
 }
 
 // What is not at most c is at least c and 1: the bound the other way round.
-pub fn negated(c: i32) -> i32
+pub(crate) fn negated(c: i32) -> i32
     requires { ⌜ Size c 400000 ⌝ }
     ensures { λ r. ⌜ r ≡ negℤ c -ℤ pos 1 ⌝ }
 {

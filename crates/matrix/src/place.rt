@@ -67,7 +67,14 @@ fn behind(table: &[u32], t: Tight, tasks: [u32; 6], new: u32, at: usize) -> Tigh
 }
 
 // A new job has just the first `at` jobs ahead of it.
-pub fn place(table: &[u32], t: Tight, tasks: [u32; 6], count: usize, new: u32, at: usize) -> Tight
+pub(crate) fn place(
+    table: &[u32],
+    t: Tight,
+    tasks: [u32; 6],
+    count: usize,
+    new: u32,
+    at: usize,
+) -> Tight
     requires { ⌜ Given (now table) ⌝ }
     requires { ⌜ (at ≤ count) × (count ≤ 6) ⌝ }
     requires { ⌜ Usable t ⌝ }

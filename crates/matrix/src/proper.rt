@@ -30,7 +30,7 @@ fn proper_job(table: &[u32], t: Tight, task: u32, a: usize, s: usize) -> Tight
 }
 
 // Of each job of the queue, from the head on.
-pub fn proper(table: &[u32], t: Tight, tasks: [u32; 6], count: usize) -> Tight
+pub(crate) fn proper(table: &[u32], t: Tight, tasks: [u32; 6], count: usize) -> Tight
     requires { ⌜ Given (now table) ⌝ }
     requires { ⌜ count ≤ 6 ⌝ }
     requires { ⌜ Usable t ⌝ }

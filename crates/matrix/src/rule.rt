@@ -19,7 +19,7 @@ pub enum Rule {
 
 // The rule of a new job of one task and a queued job of another. "FPS: larger priority beats. EDF: fewer
 // ticks left to the deadline (D minus age) beats; at equality the larger task number beats."
-pub fn rule_of(table: &[u32], new: u32, queued: u32) -> Rule
+pub(crate) fn rule_of(table: &[u32], new: u32, queued: u32) -> Rule
     requires { ⌜ Given (now table) ⌝ }
     ensures { λ r. ⌜ Ruled (ruleAt (decode (now (table .entry))) new queued) r ⌝ }
 {

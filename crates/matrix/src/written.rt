@@ -8,7 +8,7 @@ use bounds::Tight;
 use zone::Zone;
 
 // Each bound that is written, row by row.
-pub fn written(t: Tight, zone: Zone) -> Tight
+pub(crate) fn written(t: Tight, zone: Zone) -> Tight
     requires { ⌜ Written zone ⌝ }
     requires { ⌜ Usable t ⌝ }
     ensures { λ r. ⌜ Narrows (boundsOf zone) t r ⌝ }

@@ -26,7 +26,7 @@ fn mark_of(k: u32) -> u32
 }
 
 // The mark at `at`.
-pub fn mark(s: &[u8], at: usize) -> u32
+pub(crate) fn mark(s: &[u8], at: usize) -> u32
     requires { ⌜ at ≤ length (now s) ⌝ }
     ensures { λ r. ⌜ markNo r ≡ markOf (getD (now (s .entry)) at 0) (getD (now (s .entry)) (at + 1) 0) ⌝ }
 {

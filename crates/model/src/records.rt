@@ -60,7 +60,7 @@ fn enter(q: u32, at: usize, i: usize, t: &mut [u32], v: [u32; 3], n: usize, next
 }
 
 // The record at `at`, with the cursor at i.
-pub fn take(s: &[u8], at: usize, i: usize, t: &mut [u32]) -> Step
+pub(crate) fn take(s: &[u8], at: usize, i: usize, t: &mut [u32]) -> Step
     requires { ⌜ (length (now t) ≡ size) × (clocks (now t) ≤ clocksMost) × (at ≤ length (now s)) ⌝ }
     ensures { λ r. ⌜ Stepped (look (now (s .entry)) at i (now (t .entry))) r (now (t .entry)) (now (t .exit)) ⌝ }
 {

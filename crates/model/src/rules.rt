@@ -30,7 +30,7 @@ pub struct Ranges {
 }
 
 // Whether what must stand before the record is there.
-pub fn due(q: u32, t: &[u32]) -> bool
+pub(crate) fn due(q: u32, t: &[u32]) -> bool
     requires { ⌜ length (now t) ≡ size ⌝ }
     ensures { λ r. ⌜ r ≡ rule (markNo q) (now (t .entry)) .due ⌝ }
 {
@@ -49,7 +49,7 @@ pub fn due(q: u32, t: &[u32]) -> bool
 }
 
 // The last cursor at which the record may stand.
-pub fn latest(q: u32, t: &[u32]) -> usize
+pub(crate) fn latest(q: u32, t: &[u32]) -> usize
     requires { ⌜ length (now t) ≡ size ⌝ }
     ensures { λ r. ⌜ r ≡ rule (markNo q) (now (t .entry)) .latest ⌝ }
 {
@@ -68,7 +68,7 @@ pub fn latest(q: u32, t: &[u32]) -> usize
 }
 
 // Whether there is room for one more.
-pub fn room(q: u32, t: &[u32]) -> bool
+pub(crate) fn room(q: u32, t: &[u32]) -> bool
     requires { ⌜ length (now t) ≡ size ⌝ }
     ensures { λ r. ⌜ r ≡ rule (markNo q) (now (t .entry)) .room ⌝ }
 {
@@ -151,7 +151,7 @@ fn of_bound(clocks: u32) -> Ranges
 }
 
 // The ranges of the record's numbers.
-pub fn ranges_of(q: u32, t: &[u32]) -> Ranges
+pub(crate) fn ranges_of(q: u32, t: &[u32]) -> Ranges
     requires { ⌜ length (now t) ≡ size ⌝ }
     ensures { λ r. ⌜ RangesAre (rule (markNo q) (now (t .entry)) .ends) r ⌝ }
 {
@@ -172,7 +172,7 @@ pub fn ranges_of(q: u32, t: &[u32]) -> Ranges
 }
 
 // How many of the record's numbers only say where it belongs.
-pub fn keys(q: u32) -> usize
+pub(crate) fn keys(q: u32) -> usize
     ensures { λ r. ⌜ r ≡ form (markNo q) .keys ⌝ }
 {
     match q {
@@ -223,7 +223,7 @@ fn wrong_task(t: &[u32], c: u32, d: u32, p: u32) -> u32
 }
 
 // The refusal 7, 8 or 6 that the numbers get, or 0.
-pub fn wrong(q: u32, t: &[u32], v: [u32; 3]) -> u32
+pub(crate) fn wrong(q: u32, t: &[u32], v: [u32; 3]) -> u32
     requires { ⌜ (length (now t) ≡ size) × ((q ≡ 3) → getD v 2 0 ≤ prioMost) ⌝ }
     ensures { λ r. ⌜ r ≡ rule (markNo q) (now (t .entry)) .wrong v ⌝ }
 {
@@ -235,7 +235,7 @@ pub fn wrong(q: u32, t: &[u32], v: [u32; 3]) -> u32
 }
 
 // The slot that the numbers go to.
-pub fn slot(q: u32, t: &[u32], v: [u32; 3]) -> usize
+pub(crate) fn slot(q: u32, t: &[u32], v: [u32; 3]) -> usize
     requires { ⌜ (length (now t) ≡ size) × ((k : ℕ) → getD v k 0 ≤ tooLarge) ⌝ }
     ensures { λ r. ⌜ r ≡ rule (markNo q) (now (t .entry)) .slot v ⌝ }
 {

@@ -31,7 +31,7 @@ fn mark_in_edge(r: usize) -> u32
 }
 
 // The mark of the record whose slot is j, or 0.
-pub fn mark_at(j: usize) -> u32
+pub(crate) fn mark_at(j: usize) -> u32
     ensures { λ q. ⌜ MarkAt j q ⌝ }
 {
     if j < 1 {
@@ -122,7 +122,7 @@ fn numbers_of(q: u32, j: usize, t: &[u32]) -> [u32; 3]
 }
 
 // The line of slot j; nothing where no record is.
-pub fn write_slot(t: &[u32], j: usize, buf: &mut [u8], at: usize) -> usize
+pub(crate) fn write_slot(t: &[u32], j: usize, buf: &mut [u8], at: usize) -> usize
     requires { ⌜ (length (now t) ≡ size) × (j < size) × (at + length (line j (get (now t) j)) ≤ length (now buf)) ⌝ }
     ensures { λ r. ⌜ Put (now (buf .entry)) at (line j (get (now (t .entry)) j)) (now (buf .exit)) r ⌝ }
 {

@@ -13,7 +13,7 @@ ghost use Rattle.meaning.specs.Text.ModelReader.{location, edge};
 pub const SIZE: usize = 1092;
 
 // Whether something is in cell k.
-pub fn is_there(t: &[u32], k: usize) -> bool
+pub(crate) fn is_there(t: &[u32], k: usize) -> bool
     requires { ⌜ k < length (now t) ⌝ }
     ensures { λ r. ⌜ r ≡ there (now (t .entry)) k ⌝ }
 {
@@ -44,7 +44,7 @@ fn count_from(t: &[u32], at: usize, step: usize, n: usize) -> usize
 }
 
 // How many clocks.
-pub fn clocks(t: &[u32]) -> u32
+pub(crate) fn clocks(t: &[u32]) -> u32
     requires { ⌜ length (now t) ≡ size ⌝ }
     ensures { λ r. ⌜ r ≡ table.clocks (now (t .entry)) ⌝ }
 {
@@ -52,7 +52,7 @@ pub fn clocks(t: &[u32]) -> u32
 }
 
 // How many tasks.
-pub fn tasks(t: &[u32]) -> usize
+pub(crate) fn tasks(t: &[u32]) -> usize
     requires { ⌜ length (now t) ≡ size ⌝ }
     ensures { λ r. ⌜ (r ≡ table.tasks (now (t .entry))) × (r ≤ tasksMost) ⌝ }
 {
@@ -60,7 +60,7 @@ pub fn tasks(t: &[u32]) -> usize
 }
 
 // How many locations.
-pub fn locations(t: &[u32]) -> usize
+pub(crate) fn locations(t: &[u32]) -> usize
     requires { ⌜ length (now t) ≡ size ⌝ }
     ensures { λ r. ⌜ (r ≡ table.locations (now (t .entry))) × (r ≤ locationsMost) ⌝ }
 {
@@ -68,7 +68,7 @@ pub fn locations(t: &[u32]) -> usize
 }
 
 // How many edges.
-pub fn edges(t: &[u32]) -> usize
+pub(crate) fn edges(t: &[u32]) -> usize
     requires { ⌜ length (now t) ≡ size ⌝ }
     ensures { λ r. ⌜ (r ≡ table.edges (now (t .entry))) × (r ≤ edgesMost) ⌝ }
 {
@@ -76,7 +76,7 @@ pub fn edges(t: &[u32]) -> usize
 }
 
 // The slot of the location that was read last.
-pub fn last_location(t: &[u32]) -> usize
+pub(crate) fn last_location(t: &[u32]) -> usize
     requires { ⌜ length (now t) ≡ size ⌝ }
     ensures { λ r. ⌜ (r ≡ location (now (t .entry))) × (r ≤ 95) ⌝ }
 {
@@ -85,7 +85,7 @@ pub fn last_location(t: &[u32]) -> usize
 }
 
 // The slot of the edge that was read last.
-pub fn last_edge(t: &[u32]) -> usize
+pub(crate) fn last_edge(t: &[u32]) -> usize
     requires { ⌜ length (now t) ≡ size ⌝ }
     ensures { λ r. ⌜ (r ≡ edge (now (t .entry))) × (r ≤ 1061) ⌝ }
 {

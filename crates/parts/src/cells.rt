@@ -19,7 +19,7 @@ pub fn less_one(kept: u32) -> u32
 }
 
 // Cell r of a task: C, D, priority.
-pub fn of_task(table: &[u32], task: u32, r: u32) -> u32
+pub(crate) fn of_task(table: &[u32], task: u32, r: u32) -> u32
     requires { ⌜ r < 3 ⌝ }
     ensures { λ v. ⌜ v ≡ ofTask (now (table .entry)) task r ⌝ }
 {
@@ -33,7 +33,7 @@ pub fn of_task(table: &[u32], task: u32, r: u32) -> u32
 }
 
 // Cell r of a location: its task, then the limits of its clocks.
-pub fn of_location(table: &[u32], location: u32, r: u32) -> u32
+pub(crate) fn of_location(table: &[u32], location: u32, r: u32) -> u32
     requires { ⌜ r < 5 ⌝ }
     ensures { λ v. ⌜ v ≡ ofLocation (now (table .entry)) location r ⌝ }
 {
@@ -47,7 +47,7 @@ pub fn of_location(table: &[u32], location: u32, r: u32) -> u32
 }
 
 // Cell r of an edge: from, to, then the guard's bounds, then the resets.
-pub fn of_edge(table: &[u32], edge: u32, r: u32) -> u32
+pub(crate) fn of_edge(table: &[u32], edge: u32, r: u32) -> u32
     requires { ⌜ r < 31 ⌝ }
     ensures { λ v. ⌜ v ≡ ofEdge (now (table .entry)) edge r ⌝ }
 {

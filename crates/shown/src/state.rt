@@ -97,7 +97,7 @@ fn jobs_of(v: [u32; 17], n: usize, tasks: [u32; 6], count: usize) -> [Job; 6]
 }
 
 // The state after the step of the valuation x from before it.
-pub fn shown_state(table: &[u32], plan: Plan, x: [u32; 17]) -> State
+pub(crate) fn shown_state(table: &[u32], plan: Plan, x: [u32; 17]) -> State
     requires { ⌜ Given (now table) ⌝ }
     requires { ⌜ ShownBy (decode (now table)) plan x ⌝ }
     ensures { λ r. ⌜ ((z : Zone) (st : Step) → RangedZone (decode (now (table .entry))) z → Planned (decode (now (table .entry))) z st plan → Source (decode (now (table .entry))) z st (var x) → r ≡ held (movedState (decode (now (table .entry))) z st (var x))) ⌝ }

@@ -28,7 +28,7 @@ pub struct Steps {
 }
 
 // Whether a task is one of the n that are kept from cell `from` on.
-pub fn queued(table: &[u32], from: usize, n: usize, task: u32) -> bool
+pub(crate) fn queued(table: &[u32], from: usize, n: usize, task: u32) -> bool
     requires { ⌜ from + n ≤ size ⌝ }
     ensures { λ r. ⌜ r ≡ elem task (numbersIn (now (table .entry)) from n) ⌝ }
 {

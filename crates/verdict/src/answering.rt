@@ -16,7 +16,7 @@ use crate::trying::try_zone;
 use zonetable::counts::zones as zones_in;
 
 // Refusal 13.
-pub fn refused() -> Answer
+pub(crate) fn refused() -> Answer
     ensures { λ r. ⌜ r ≡ Answers.refused ⌝ }
 {
     Answer {
@@ -60,7 +60,7 @@ fn failed(number: u32, zone: u32, place: u32, found: Found) -> Answer
 }
 
 // The answer on tables that texts give. The counter goes up with every obligation that is tried.
-pub fn check_given(model: &[u32], zones: &[u32]) -> Answer
+pub(crate) fn check_given(model: &[u32], zones: &[u32]) -> Answer
     requires { ⌜ Given (now model) × reader.Given (decode (now model)) (now zones) ⌝ }
     ensures { λ r. ⌜ Answered (now (model .entry)) (now (zones .entry)) r ⌝ }
 {

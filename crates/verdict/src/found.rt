@@ -12,7 +12,7 @@ use machine::Job;
 use machine::State;
 
 // A state of nothing.
-pub fn no_state() -> State
+pub(crate) fn no_state() -> State
     ensures { λ r. ⌜ r ≡ noState ⌝ }
 {
     let none = Job {
@@ -29,7 +29,7 @@ pub fn no_state() -> State
 }
 
 // The obligation holds.
-pub fn holds() -> Found
+pub(crate) fn holds() -> Found
     ensures { λ r. ⌜ r ≡ clear ⌝ }
 {
     Found {
@@ -39,7 +39,7 @@ pub fn holds() -> Found
 }
 
 // Does it?
-pub fn is_clear(found: Found) -> bool
+pub(crate) fn is_clear(found: Found) -> bool
     ensures { λ r. ⌜ (r ≡ true) ↔ (faultOf (found .fault) ≡ none) ⌝ }
 {
     let fault = found.fault;

@@ -9,7 +9,13 @@ use zonetable::zones::queue;
 use zonetable::zones::task;
 
 // Has a zone of the proposal this location and queue order?
-pub fn same_home(zones: &[u32], zone: u32, location: u32, tasks: [u32; 6], count: u32) -> bool
+pub(crate) fn same_home(
+    zones: &[u32],
+    zone: u32,
+    location: u32,
+    tasks: [u32; 6],
+    count: u32,
+) -> bool
     requires { ⌜ (1 ≤ zone) × (zone ≤ 48) × (count ≤ 6) ⌝ }
     ensures { λ r. ⌜ (r ≡ true) ↔ SameHome (now (zones .entry)) zone location tasks count ⌝ }
 {

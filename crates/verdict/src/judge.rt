@@ -24,7 +24,7 @@ use zones::plan_of;
 
 // The obligation of a step of the zone's list, with its claim. `closed` is the zone's matrix, which all
 // its steps share.
-pub fn judge(
+pub(crate) fn judge(
     model: &[u32],
     zones: &[u32],
     zone: Zone,

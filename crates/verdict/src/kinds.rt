@@ -100,7 +100,14 @@ fn by_claim(model: &[u32], zones: &[u32], t: Tight, plan: Plan, claim: u32) -> F
 
 // The first kind that applies to a step that some state takes: 1 a miss, 2 an overflow, 3 the claim is 0,
 // then those of the claimed zone. At an overflow nothing is reached, so nothing is late.
-pub fn by_kind(model: &[u32], zones: &[u32], t: Tight, plan: Plan, step: Move, claim: u32) -> Found
+pub(crate) fn by_kind(
+    model: &[u32],
+    zones: &[u32],
+    t: Tight,
+    plan: Plan,
+    step: Move,
+    claim: u32,
+) -> Found
     requires { ⌜ Given (now model) × reader.Given (decode (now model)) (now zones) × (claim ≤ zonesIn (now zones)) ⌝ }
     requires { ⌜ DrawnBy (decode (now model)) t plan ⌝ }
     ensures { λ r. ⌜ ((n x : ℕ) (z : Zone) → Listed (decode (now (model .entry))) z step → Drawn (decode (now (model .entry))) z (stepOf step) t plan → Judged (decode (now (model .entry))) (table.decode (now (zones .entry))) (following n x z (stepOf step) claim) r) ⌝ }

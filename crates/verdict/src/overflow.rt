@@ -12,7 +12,7 @@ use parts::to;
 
 // Does the release of a step of the zone's list overflow? An edge is listed without a position if it
 // releases nothing, or if what it releases is queued already.
-pub fn overflows(table: &[u32], step: Move) -> bool
+pub(crate) fn overflows(table: &[u32], step: Move) -> bool
     requires { ⌜ Given (now table) ⌝ }
     ensures { λ r. ⌜ ((z : Zone) → Listed (decode (now (table .entry))) z step → r ≡ stepOverflows (decode (now (table .entry))) (homeOfZone z) (stepOf step)) ⌝ }
 {

@@ -18,7 +18,7 @@ use parts::released;
 const BOUNDS: usize = 384;
 
 // It holds, or it fails by kind 4 or 5. All variables of the start are 0, so its matrix is.
-pub fn try_start(model: &[u32], zones: &[u32]) -> Found
+pub(crate) fn try_start(model: &[u32], zones: &[u32]) -> Found
     requires { ⌜ Given (now model) × reader.Given (decode (now model)) (now zones) ⌝ }
     ensures { λ r. ⌜ Judged (decode (now (model .entry))) (table.decode (now (zones .entry))) starts r ⌝ }
 {

@@ -40,7 +40,7 @@ fn try_place(model: &[u32], zones: &[u32], n: u32, zone: Zone, closed: Tight, x:
 
 // All of them, up to the first that fails. `before` obligations were tried before these. The zone's matrix
 // is closed once for all its steps.
-pub fn try_zone(model: &[u32], zones: &[u32], n: u32, before: u32) -> Tried
+pub(crate) fn try_zone(model: &[u32], zones: &[u32], n: u32, before: u32) -> Tried
     requires { ⌜ Given (now model) × reader.Given (decode (now model)) (now zones) × (1 ≤ n) × (n ≤ zonesIn (now zones)) ⌝ }
     requires { ⌜ before ≤ 2000000 ⌝ }
     ensures { λ r. ⌜ ZoneTried (decode (now (model .entry))) (table.decode (now (zones .entry))) n (table.zoneIn (now (zones .entry)) (n - 1)) before r ⌝ }

@@ -40,7 +40,7 @@ fn right_entry(c: i32, k: usize, n: usize) -> bool
 }
 
 // May all the entries stand, of n variables?
-pub fn right_entries(bounds: &[i32; 289], n: usize) -> bool
+pub(crate) fn right_entries(bounds: &[i32; 289], n: usize) -> bool
     ensures { λ r. ⌜ (r ≡ true) ↔ RightEntries n (now (bounds .entry)) ⌝ }
 {
     let mut k: usize = 0;

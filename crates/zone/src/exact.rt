@@ -9,7 +9,7 @@ use crate::Zone;
 use machine::Job;
 
 // No bounds.
-pub fn no_bounds() -> [i32; 289]
+pub(crate) fn no_bounds() -> [i32; 289]
     ensures { λ r. ⌜ Empty r ⌝ }
 {
     [Zone::NO_BOUND; 289]
@@ -26,7 +26,7 @@ fn both(bounds: &mut [i32; 289], i: usize, j: usize, v: u32)
 }
 
 // The bounds of each of n clocks against 0.
-pub fn of_clocks(clocks: [u32; 4], n: usize) -> [i32; 289]
+pub(crate) fn of_clocks(clocks: [u32; 4], n: usize) -> [i32; 289]
     requires { ⌜ (n ≤ 4) × SmallClocks clocks ⌝ }
     ensures { λ r. ⌜ ClocksWritten clocks n r ⌝ }
 {
@@ -40,7 +40,7 @@ pub fn of_clocks(clocks: [u32; 4], n: usize) -> [i32; 289]
 }
 
 // The bounds with those of the jobs: each running sum against the one ahead, and each age against 0.
-pub fn with_jobs(bounds: [i32; 289], n: usize, jobs: [Job; 6], count: usize) -> [i32; 289]
+pub(crate) fn with_jobs(bounds: [i32; 289], n: usize, jobs: [Job; 6], count: usize) -> [i32; 289]
     requires { ⌜ (n ≤ 4) × (count ≤ 6) × SmallJobs jobs count ⌝ }
     ensures { λ r. ⌜ JobsWritten bounds n jobs count r ⌝ }
 {
@@ -60,7 +60,7 @@ pub fn with_jobs(bounds: [i32; 289], n: usize, jobs: [Job; 6], count: usize) -> 
 }
 
 // The tasks of the jobs.
-pub fn tasks_of(jobs: [Job; 6]) -> [u32; 6]
+pub(crate) fn tasks_of(jobs: [Job; 6]) -> [u32; 6]
     ensures { λ r. ⌜ r ≡ map taskOf jobs ⌝ }
 {
     let mut r = [0u32; 6];

@@ -16,7 +16,7 @@ use machine::State;
 use machine::judge::is_lendable;
 
 // Refusal 13, and a zone of nothing.
-pub fn not_made() -> Made
+pub(crate) fn not_made() -> Made
     ensures { λ r. ⌜ NotMade r ⌝ }
 {
     let tasks = [0u32; 6];
@@ -31,7 +31,7 @@ pub fn not_made() -> Made
 }
 
 // The widest zone of a location and queue: it has no bounds.
-pub fn widest_zone(location: u32, tasks: [u32; 6], count: u32) -> Zone
+pub(crate) fn widest_zone(location: u32, tasks: [u32; 6], count: u32) -> Zone
     ensures { λ r. ⌜ ((m : Model) → RightCells m location tasks count → WidestZone m location (take count tasks) r) ⌝ }
 {
     let bounds = no_bounds();
@@ -44,7 +44,7 @@ pub fn widest_zone(location: u32, tasks: [u32; 6], count: u32) -> Zone
 }
 
 // The zone that holds exactly the given state.
-pub fn exact_zone(model: &[u32], state: State) -> Zone
+pub(crate) fn exact_zone(model: &[u32], state: State) -> Zone
     requires { ⌜ Given (now model) × S.Lendable (decode (now model)) state ⌝ }
     ensures { λ r. ⌜ ExactZone (decode (now (model .entry))) (S.stateOf (decode (now (model .entry))) state) r ⌝ }
 {
@@ -65,7 +65,7 @@ pub fn exact_zone(model: &[u32], state: State) -> Zone
 }
 
 // The widest zone, or refusal 13, over a table that a text gives.
-pub fn widest_given(model: &[u32], location: u32, tasks: [u32; 6], count: u32) -> Made
+pub(crate) fn widest_given(model: &[u32], location: u32, tasks: [u32; 6], count: u32) -> Made
     requires { ⌜ Given (now model) ⌝ }
     ensures { λ r. ⌜ MadeWidest (now (model .entry)) location tasks count r ⌝ }
 {
@@ -77,7 +77,7 @@ pub fn widest_given(model: &[u32], location: u32, tasks: [u32; 6], count: u32) -
 }
 
 // The zone of exactly one state, or refusal 13, over a table that a text gives.
-pub fn exactly_given(model: &[u32], state: State) -> Made
+pub(crate) fn exactly_given(model: &[u32], state: State) -> Made
     requires { ⌜ Given (now model) ⌝ }
     ensures { λ r. ⌜ MadeExact (now (model .entry)) state r ⌝ }
 {

@@ -76,7 +76,7 @@ fn unused(tasks: [u32; 6], count: usize) -> bool
 }
 
 // Are the location and the queue order of the model, and the unused cells 0?
-pub fn is_order(table: &[u32], location: u32, tasks: [u32; 6], count: u32) -> bool
+pub(crate) fn is_order(table: &[u32], location: u32, tasks: [u32; 6], count: u32) -> bool
     requires { ⌜ Given (now table) ⌝ }
     ensures { λ r. ⌜ (r ≡ true) ↔ RightCells (decode (now (table .entry))) location tasks count ⌝ }
 {

@@ -10,7 +10,7 @@ mod plan;
 mod reply;
 mod variables;
 
-pub use listed::in_list;
+use listed::in_list;
 use matrix::Move;
 use model::writing::is_model;
 pub use plan::Motion;

@@ -76,7 +76,7 @@ fn placed_listed(table: &[u32], zone: Zone, edge: u32, at: u32) -> bool
 }
 
 // Is the step in the zone's list?
-pub fn in_list(table: &[u32], zone: Zone, step: Move) -> bool
+pub(crate) fn in_list(table: &[u32], zone: Zone, step: Move) -> bool
     requires { ⌜ Given (now table) ⌝ }
     requires { ⌜ Lendable (decode (now table)) zone ⌝ }
     ensures { λ r. ⌜ (r ≡ true) ↔ Listed (decode (now (table .entry))) (zoneOf zone) step ⌝ }

@@ -6,7 +6,7 @@ ghost use lib.ListN.{getD, take};
 ghost use Rattle.meaning.specs.Lists.{elem, insertAt};
 
 // Is the task queued?
-pub fn queued(tasks: [u32; 6], count: usize, task: u32) -> bool
+pub(crate) fn queued(tasks: [u32; 6], count: usize, task: u32) -> bool
     requires { ⌜ count ≤ 6 ⌝ }
     ensures { λ r. ⌜ r ≡ elem task (take count tasks) ⌝ }
 {
@@ -21,7 +21,7 @@ pub fn queued(tasks: [u32; 6], count: usize, task: u32) -> bool
 }
 
 // The tasks without the head.
-pub fn without_head(tasks: [u32; 6]) -> [u32; 6]
+pub(crate) fn without_head(tasks: [u32; 6]) -> [u32; 6]
     ensures { λ r. ⌜ ((k : ℕ) → getD r k 0 ≡ getD tasks (suc k) 0) ⌝ }
 {
     let mut r = [0u32; 6];
@@ -48,7 +48,7 @@ fn task_at(tasks: [u32; 6], new: u32, ahead: usize, k: usize) -> u32
 }
 
 // The tasks with a new one behind `ahead` of the `count` that are there.
-pub fn with_new(tasks: [u32; 6], count: usize, new: u32, ahead: usize) -> [u32; 6]
+pub(crate) fn with_new(tasks: [u32; 6], count: usize, new: u32, ahead: usize) -> [u32; 6]
     requires { ⌜ (ahead ≤ count) × (count < 6) ⌝ }
     ensures { λ r. ⌜ (take (suc count) r ≡ insertAt ahead new (take count tasks)) × ((k : ℕ) → suc count ≤ k → getD r k 0 ≡ 0) ⌝ }
 {

@@ -24,7 +24,7 @@ pub struct StepReply {
 }
 
 // A refusal: all else is 0.
-pub fn refusal(number: u32) -> StepReply
+pub(crate) fn refusal(number: u32) -> StepReply
     ensures { λ r. ⌜ r ≡ refused number ⌝ }
 {
     StepReply {
@@ -38,7 +38,7 @@ pub fn refusal(number: u32) -> StepReply
 }
 
 // The step of a zone's list: the states that take it, as one matrix, and their variables moved.
-pub fn stepped(table: &[u32], zone: Zone, step: Move) -> StepReply
+pub(crate) fn stepped(table: &[u32], zone: Zone, step: Move) -> StepReply
     requires { ⌜ Given (now table) ⌝ }
     requires { ⌜ Lendable (decode (now table)) zone ⌝ }
     requires { ⌜ Listed (decode (now table)) (zoneOf zone) step ⌝ }

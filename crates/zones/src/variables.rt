@@ -61,7 +61,7 @@ fn added_to(clocks: usize, time: i32, sum: i32, i: usize) -> i32
 }
 
 // Each of the first n variables; 0 behind them.
-pub fn all_from(
+pub(crate) fn all_from(
     table: &[u32],
     n: usize,
     clocks: usize,
@@ -82,7 +82,7 @@ pub fn all_from(
 }
 
 // What is added to each of them; 0 behind them.
-pub fn all_added(n: usize, clocks: usize, time: i32, sum: i32) -> [i32; 17]
+pub(crate) fn all_added(n: usize, clocks: usize, time: i32, sum: i32) -> [i32; 17]
     requires { ⌜ (clocks ≤ 4) × (n ≤ 17) ⌝ }
     ensures { λ r. ⌜ ((i : ℕ) → i < n → getD r i (pos 0) ≡ added clocks time sum i) × ((i : ℕ) → n ≤ i → getD r i (pos 0) ≡ pos 0) ⌝ }
 {

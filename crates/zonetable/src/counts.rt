@@ -38,7 +38,7 @@ pub fn zones(table: &[u32]) -> u32
 }
 
 // How many tasks the queue of zone k + 1 has.
-pub fn queue_at(table: &[u32], k: usize) -> u32
+pub(crate) fn queue_at(table: &[u32], k: usize) -> u32
     requires { ⌜ k < 48 ⌝ }
     ensures { λ r. ⌜ (r ≡ queueIn (now (table .entry)) k) × (r ≤ 6) ⌝ }
 {

@@ -41,7 +41,7 @@ pub fn task(table: &[u32], zone: u32, position: u32) -> u32
 }
 
 // c of its bound of i minus j, 32,000 and 1; 0: there is none.
-pub fn bound(table: &[u32], zone: u32, i: u32, j: u32) -> u32
+pub(crate) fn bound(table: &[u32], zone: u32, i: u32, j: u32) -> u32
     requires { ⌜ (1 ≤ zone) × (zone ≤ 48) × (i ≤ 16) × (j ≤ 16) ⌝ }
     ensures { λ r. ⌜ r ≡ boundAt (now (table .entry)) zone i j ⌝ }
 {

@@ -12,7 +12,7 @@ use machine::Job;
 use machine::State;
 
 // A state of nothing.
-pub(crate) fn no_state() -> State
+pub fn no_state() -> State
     ensures { λ r. ⌜ r ≡ noState ⌝ }
 {
     let none = Job {

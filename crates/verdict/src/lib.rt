@@ -23,6 +23,7 @@ pub use answer::Found;
 pub use answer::Tried;
 use answering::check_given;
 use answering::refused;
+pub use found::no_state;
 use model::writing::is_model;
 use zonetable::test::is_proposal;
 

@@ -1,0 +1,4 @@
+pub mod Line
+pub mod Wrote
+pub mod Part
+pub mod Texts

@@ -6,7 +6,10 @@ ghost use Rattle.bounds.specs.Images.{var, Map, Maps};
 ghost use Rattle.bounds.specs.Claims.{cell, Cells};
 ghost use Rattle.bounds.specs.Results.{FirstBroken};
 ghost use Rattle.bounds.specs.Inner.{Claimed};
+use crate::image::Offsets;
+use crate::image::Sources;
 use crate::image::reached;
+use crate::matrix::Matrix;
 use crate::matrix::NONE;
 
 // What is added to a claimed bound where it is kept, so that 0 is left for "no bound".
@@ -36,10 +39,10 @@ pub fn claimed(claims: &[u32], start: usize, a: usize, b: usize) -> i32
 // The first claimed bound, row by row, that the image of a solution of m breaks. The image's
 // entries are read where they stand in m, so no second matrix is laid out.
 pub fn first_broken(
-    m: &[i32; 289],
+    m: &Matrix,
     n: usize,
-    p: [usize; 17],
-    off: [i32; 17],
+    p: Sources,
+    off: Offsets,
     claims: &[u32],
     start: usize,
 ) -> Broken

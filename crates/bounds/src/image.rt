@@ -4,8 +4,14 @@ ghost use Rattle.bounds.specs.Matrix.{ent, at, Entry, Entries, Closed, S
 ghost use Rattle.bounds.specs.Images.{var, Map, Maps};
 ghost use Rattle.bounds.specs.Results.{Remapped};
 ghost use Rattle.bounds.specs.Inner.{Shift};
+use crate::matrix::Matrix;
 use crate::matrix::NONE;
 use crate::matrix::get;
+
+// For each new variable the old one that it comes from, and what is added to it.
+pub type Sources = [usize; 17];
+
+pub type Offsets = [i32; 17];
 
 // The bound v on one variable minus another, after u was added to the first and w to the second.
 fn shifted(v: i32, u: i32, w: i32) -> i32
@@ -19,7 +25,7 @@ fn shifted(v: i32, u: i32, w: i32) -> i32
 }
 
 // The bound on new variable a minus new variable b, read where it stands in the old matrix.
-pub fn reached(m: &[i32; 289], p: &[usize; 17], off: &[i32; 17], a: usize, b: usize) -> i32
+pub fn reached(m: &Matrix, p: &Sources, off: &Offsets, a: usize, b: usize) -> i32
     requires { ⌜ (a < 17) × (b < 17) ⌝ }
     requires { ⌜ (var (now p) a < 17) × (var (now p) b < 17) ⌝ }
     requires { ⌜ Size (ent (now off) a) 100000000 × Size (ent (now off) b) 100000000 ⌝ }
@@ -33,7 +39,7 @@ pub fn reached(m: &[i32; 289], p: &[usize; 17], off: &[i32; 17], a: usize, b: us
 }
 
 // The image of the solutions of m, as a matrix over n variables; every other entry is 0.
-pub fn remap(m: [i32; 289], n: usize, p: [usize; 17], off: [i32; 17]) -> [i32; 289]
+pub fn remap(m: Matrix, n: usize, p: Sources, off: Offsets) -> Matrix
     requires { ⌜ n ≤ 17 ⌝ }
     requires { ⌜ Entries m ⌝ }
     requires { ⌜ Maps m n p off ⌝ }

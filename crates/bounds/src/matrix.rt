@@ -3,11 +3,14 @@ ghost use Prim.Native.Nat.{_<_};
 ghost use Rattle.bounds.specs.Results.{Got, Widest};
 ghost use Rattle.bounds.specs.Inner.{Unknown};
 
+// A matrix of bounds over at most 17 variables, made by repeat.
+pub type Matrix = [i32; 289];
+
 // "No bound". Three of the largest bounds that are stored make less.
 pub const NONE: i32 = 1_000_000_000;
 
 // The bound on variable a minus variable b.
-pub fn get(m: &[i32; 289], a: usize, b: usize) -> i32
+pub fn get(m: &Matrix, a: usize, b: usize) -> i32
     requires { ⌜ (a < 17) × (b < 17) ⌝ }
     ensures { λ r. ⌜ Got (now (m .entry)) a b r ⌝ }
 {
@@ -29,7 +32,7 @@ fn top_entry(a: usize, b: usize) -> i32
 }
 
 // The matrix of which nothing is known but that every variable is at least 0.
-pub fn top() -> [i32; 289]
+pub fn top() -> Matrix
     ensures { λ r. ⌜ Widest r ⌝ }
 {
     let mut r = [0i32; 289];

@@ -4,7 +4,11 @@ ghost use mathlib.Core.Path.{_≡_};
 ghost use Rattle.meaning.specs.Numbers.{over, under};
 ghost use Rattle.bounds.specs.Matrix.{at, Entry, Entries, Closed};
 ghost use Rattle.bounds.specs.Results.{Smallest};
+use crate::matrix::Matrix;
 use crate::matrix::get;
+
+// A value for each variable.
+pub type Values = [u32; 17];
 
 // The lower bound of a variable, from the bound z on 0 minus the variable.
 fn negated(z: i32) -> u32
@@ -16,7 +20,7 @@ fn negated(z: i32) -> u32
 }
 
 // The solution of m, over n variables, that is smallest in every variable at once.
-pub fn least(m: &[i32; 289], n: usize) -> [u32; 17]
+pub fn least(m: &Matrix, n: usize) -> Values
     requires { ⌜ n ≤ 17 ⌝ }
     requires { ⌜ Entries (now m) × Closed (at (now m)) n ⌝ }
     ensures { λ r. ⌜ Smallest (now (m .entry)) n r ⌝ }

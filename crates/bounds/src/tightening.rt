@@ -4,13 +4,14 @@ ghost use Prim.Native.Nat.{_<_, _≤_};
 ghost use Rattle.bounds.specs.Matrix.{at, Entry, Finite, Entries, Closed, Size};
 ghost use Rattle.bounds.specs.Results.{Tightened};
 ghost use Rattle.bounds.specs.Inner.{Via, Shortened};
+use crate::matrix::Matrix;
 use crate::matrix::NONE;
 use crate::matrix::get;
 
 // What a bound makes of a matrix: the solutions that meet it, or that there is none.
 pub struct Tight {
     pub empty: bool,
-    pub m: [i32; 289],
+    pub m: Matrix,
 }
 
 // The least of x and y + c + z, where y and z are bounds. "No bound" is tested first, since a sum
@@ -32,7 +33,7 @@ fn shorter(x: i32, y: i32, c: i32, z: i32) -> i32
 }
 
 // m with every way over the bound c on i minus j taken where it is shorter.
-fn shorten(m: [i32; 289], n: usize, i: usize, j: usize, c: i32) -> [i32; 289]
+fn shorten(m: Matrix, n: usize, i: usize, j: usize, c: i32) -> Matrix
     requires { ⌜ (n ≤ 17) × (i < n) × (j < n) ⌝ }
     requires { ⌜ Entry c × Finite c ⌝ }
     requires { ⌜ Entries m ⌝ }
@@ -56,7 +57,7 @@ fn shorten(m: [i32; 289], n: usize, i: usize, j: usize, c: i32) -> [i32; 289]
 
 // The solutions of m, over n variables, with variable i minus variable j at most c. It is empty
 // where m holds that j minus i is below -c; then m comes back as it was.
-pub fn tighten(m: [i32; 289], n: usize, i: usize, j: usize, c: i32) -> Tight
+pub fn tighten(m: Matrix, n: usize, i: usize, j: usize, c: i32) -> Tight
     requires { ⌜ (n ≤ 17) × (i < n) × (j < n) ⌝ }
     requires { ⌜ Entries m × Closed (at m) n ⌝ }
     requires { ⌜ Size c 300000000 ⌝ }

@@ -10,12 +10,15 @@ use crate::numerals;
 use crate::numerals::Number;
 use crate::places;
 
+// A number for each field of a line; no line with ranges has more than three.
+pub type Numbers = [u32; 3];
+
 // What the fields of a line come to. Refusal 0: the numbers as they are kept, and the place after the line. Refusal 4: the first byte that can't go
 // on. Refusal 5: the first byte of the first number outside its range. Where it is refused the numbers are all 0.
 pub struct Line {
     pub refusal: u32,
     pub at: usize,
-    pub numbers: [u32; 3],
+    pub numbers: Numbers,
 }
 
 // One space, and a number.
@@ -74,14 +77,7 @@ fn refused(refusal: u32, at: usize) -> Line
 }
 
 // n numbers after a mark, with their ranges, and the line feed.
-pub fn read_line(
-    s: &[u8],
-    at: usize,
-    n: usize,
-    below: [u32; 3],
-    low: [u32; 3],
-    high: [u32; 3],
-) -> Line
+pub fn read_line(s: &[u8], at: usize, n: usize, below: Numbers, low: Numbers, high: Numbers) -> Line
     requires { ⌜ (n ≤ 3) × ((k : ℕ) → getD below k 0 ≤ tooLarge) ⌝ }
     ensures { λ r. ⌜ Told (fields (ranges below low high 0 n) (now (s .entry)) at) r ⌝ }
 {

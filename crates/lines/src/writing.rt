@@ -7,6 +7,7 @@ ghost use lib.ListN.{length};
 ghost use Rattle.meaning.specs.Text.Numerals.{decF, numText};
 ghost use Rattle.meaning.specs.Text.Lines.{keptText, fieldsText};
 ghost use Rattle.lines.specs.Put.{Put, firsts};
+use crate::fields::Numbers;
 
 // No range has an end of more digits than these.
 const DIGITS_MOST: usize = 6;
@@ -61,13 +62,7 @@ pub fn write_field(buf: &mut [u8], at: usize, below: u32, v: u32) -> usize
 }
 
 // n fields, and the line feed.
-pub fn write_fields(
-    buf: &mut [u8],
-    at: usize,
-    n: usize,
-    below: [u32; 3],
-    numbers: [u32; 3],
-) -> usize
+pub fn write_fields(buf: &mut [u8], at: usize, n: usize, below: Numbers, numbers: Numbers) -> usize
     requires { ⌜ (n ≤ 3) × (at + length (fieldsText (firsts below 0 n) (firsts numbers 0 n)) ≤ length (now buf)) ⌝ }
     ensures { λ r. ⌜ Put (now (buf .entry)) at (fieldsText (firsts below 0 n) (firsts numbers 0 n)) (now (buf .exit)) r ⌝ }
 {

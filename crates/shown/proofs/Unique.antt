@@ -1,8 +1,10 @@
 -- The contracts of the smallest states determine their replies.
 -- Assumes nothing.
-use mathlib.Core.Path.{_≡_, sym, _∙_, ap}
-use Prim.Native.Nat.{ℕ, _<_}
+use mathlib.Core.Path.{_≡_, refl, sym, _∙_, ap}
+use mathlib.Core.Logic.{inl, inr}
+use Prim.Native.Nat.{ℕ, zero, suc, _<_}
 use native.Mathlib.Omega.{arith}
+use native.Mathlib.Decide.{decLt}
 use lib.IntN.{ℤ}
 use Rattle.meaning.specs.Model.{Model}
 use Rattle.meaning.specs.Zones.Variables.{variables}
@@ -17,7 +19,7 @@ use Rattle.bounds.specs.declared.tightening.Tight.{Tight}
 use Rattle.machine.specs.declared.State.{State}
 use Rattle.machine.specs.Stands.{held}
 use Rattle.zones.specs.declared.plan.Plan.{Plan}
-use Rattle.shown.specs.Drawn.{Drawn, DrawnBy, ApartBy, SmallestIs, SmallestApart}
+use Rattle.shown.specs.Drawn.{Drawn, DrawnBy, ApartBy, SmallestIs, SmallestApart, FirstLate}
 use Rattle.shown.proofs.StateLaws.{plan-many}
 
 module _ (m : Model) (z : Zone) (st : Step) (rm : RangedModel m) (rz : RangedZone m z) (r s : State) where
@@ -54,3 +56,15 @@ module _ (m : Model) (rm : RangedModel m) (t : Tight) (p : Plan) (r s : State) w
   apart-determined i j c hi hj d a b =
       let n = plan-many m (d .zone) (d .step) p (d .drawn .planned) in
       apart-once m (d .zone) (d .step) rm (d .drawn .ranged) r s i j c (omega arith) (omega arith) (a (d .zone) (d .step) (d .drawn)) (b (d .zone) (d .step) (d .drawn))
+
+-- and so is the first late position
+pub first-late-once : (m : Model) (z : Zone) (st : Step) (r s : ℕ) → FirstLate m z st r → FirstLate m z st s → r ≡ s
+first-late-once m z st zero zero a b = refl
+first-late-once m z st zero (suc k) a b = absurd (let x = b .here k refl in a .before k (omega (arith, b .few)) (inl refl) (x .0) (x .1) (x .2))
+first-late-once m z st (suc k) zero a b = absurd (let x = a .here k refl in b .before k (omega (arith, a .few)) (inl refl) (x .0) (x .1) (x .2))
+first-late-once m z st (suc i) (suc j) a b = go (decLt i j) (decLt j i)
+  where
+    go : Dec (i < j) → Dec (j < i) → suc i ≡ suc j
+    go (yes l) w = absurd (let x = a .here i refl in b .before i (omega (arith, a .few)) (inr (omega arith)) (x .0) (x .1) (x .2))
+    go (no l) (yes w) = absurd (let x = b .here j refl in a .before j (omega (arith, b .few)) (inr (omega arith)) (x .0) (x .1) (x .2))
+    go (no l) (no w) = omega arith

@@ -13,10 +13,13 @@ use making::not_made;
 use making::widest_given;
 use model::writing::is_model;
 
+// The tasks of a queue, head first, and 0 behind them.
+pub type Tasks = [u32; 6];
+
 // The bound on variable i minus variable j stands at i * 17 + j. Tasks behind the queue are 0, bounds that are not written are `NO_BOUND`.
 pub struct Zone {
     pub location: u32,
-    pub tasks: [u32; 6],
+    pub tasks: Tasks,
     pub count: u32,
     pub bounds: [i32; 289],
 }
@@ -38,7 +41,7 @@ impl Zone {
     pub const NO_BOUND: i32 = 1_000_000_000;
 
     // The widest zone of a location and queue. 13: the table, the location or the queue can't be lent.
-    pub fn widest(model: &[u32], location: u32, tasks: [u32; 6], count: u32) -> Made
+    pub fn widest(model: &[u32], location: u32, tasks: Tasks, count: u32) -> Made
         ensures { λ r. ⌜ MadeWidest (now (model .entry)) location tasks count r ⌝ }
     {
         if is_model(model) {

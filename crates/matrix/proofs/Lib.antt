@@ -8,3 +8,4 @@ pub mod HeadLaws
 pub mod RuleLaws
 pub mod PlaceLaws
 pub mod MoveLaws
+pub mod Unique

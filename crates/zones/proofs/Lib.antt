@@ -4,3 +4,4 @@ pub mod PlanLaws
 pub mod TestLaws
 pub mod ReplyLaws
 pub mod Unique
+pub mod PlanUnique

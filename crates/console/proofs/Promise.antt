@@ -21,6 +21,7 @@ use Rattle.meaning.specs.Text.ProposalTable as proposal
 use Rattle.meaning.specs.Text.ProposalReader.{readProposal}
 use Rattle.meaning.proofs.Check.DemandThree.{demand-three}
 use Rattle.verdict.specs.Answers.{faultOf, Says}
+use Rattle.verdict.proofs.FoundLaws.{none-some}
 use Rattle.console.specs.declared.told.Told.{Told}
 use Rattle.console.specs.Line.{okLine, judgedLine, refusedLine, isRefused, lineOf}
 use Rattle.console.specs.Texts.{TellsAnswer, TellsProposal, TellsModel, Tells}
@@ -39,9 +40,6 @@ pub record Kept (m p : List ℕ) (r : Told) : Type 0 where
 abbrev first : List ℕ → ℕ
 first [] = 0
 first (b ∷ bs) = b
-
-none-some : {B : Type 0} {y : B} → none ≡ some y → ⊥
-none-some e = let c : _≡_ {A = ℕ} 0 1 = cc in omega arith
 
 -- a line that begins with O is that of texts and tables that are not refused, and of no fault
 ok-line : (r : Told) (n : ℕ) → lineOf r ≡ okLine n → (isRefused r ≡ false) × (faultOf (r .answer .fault) ≡ none)

@@ -14,14 +14,12 @@ use Rattle.meaning.specs.Model.{Model, taskAt}
 use Rattle.meaning.specs.Zones.Variables.{variables}
 use Rattle.meaning.specs.Zones.Zone.{Zone}
 use Rattle.meaning.specs.Zones.Steps.{Step}
-use Rattle.meaning.specs.Zones.Reached.{Home, homeOfZone}
 use Rattle.meaning.specs.Text.ModelReader.{Given}
 use Rattle.meaning.specs.Text.ModelTable.{decode, clocks}
 use Rattle.meaning.specs.Text.RightModel.{RightModel}
 use Rattle.meaning.proofs.Numbers.{shift-parts}
 use Rattle.meaning.proofs.Text.ModelTheorems.{given-right}
 use Rattle.meaning.proofs.Exact.Moves as M
-use Rattle.meaning.proofs.Exact.Ranges.{from-in, off-size}
 use Rattle.meaning.proofs.Exact.Reached.{sourceBounds, Source, planAt, homeAt}
 use Rattle.meaning.proofs.Exact.Smallest.{ApartBefore}
 use Rattle.meaning.proofs.Exact.Solved.{Solves, source-iff}
@@ -37,29 +35,27 @@ use Rattle.parts.specs.Parts.{deadlineIn}
 use Rattle.parts.proofs.PartLaws.{clocks-is, deadline-is}
 use Rattle.matrix.proofs.RangeLaws.{clocks-small, deadline-small}
 use Rattle.zones.specs.declared.plan.Plan.{Plan}
-use Rattle.zones.proofs.ReplyLaws.{head-small}
 use Rattle.shown.specs.Drawn.{Drawn, FirstLate}
+use Rattle.shown.proofs.StateLaws as S
+use Rattle.shown.proofs.StateLaws.{plan-many, plan-into, plan-size}
 
 -- ---- what is drawn, and its plan
 
 module _ (m : Model) (z : Zone) (st : Step) (t : Tight) (p : Plan) (d : Drawn m z st t p) where
   -- the plan's queue order is that after the step
   pub order-is : homeAt m z st .order ≡ take (p .count) (p .tasks)
-  order-is = sym (ap (λ (h : Home). h .order) (d .planned .home))
+  order-is = sym (S.order-is m z st p (d .planned))
 
   pub many-is : p .variables ≡ variables m (homeAt m z st .order)
-  many-is = d .planned .many ∙ ap (variables m) (sym order-is)
+  many-is = plan-many m z st p (d .planned)
 
   -- the variable from before is one of the matrix
   pub from-low : (i : ℕ) → i < p .variables → var (p .from) i < 17
-  from-low i h = omega (arith, d .planned .from i h, from-in m (homeOfZone z) st i, d .few)
+  from-low = plan-into m z st p (d .planned) (d .few)
 
   -- what is added is small
   pub off-small : RightModel m → (i : ℕ) → i < p .variables → Size (ent (p .off) i) 100000000
-  off-small w i h =
-      let y = off-size m (homeOfZone z) st i in
-      let c = head-small m w (z .order) in
-      subst (λ (u : ℤ). Size u 100000000) (sym (d .planned .off i h)) (record { high = omega (arith, y .0, y .1); low = omega (arith, y .0, y .1) })
+  off-small w i h = let y = plan-size m z st p (d .planned) w i h in record { high = omega (arith, y .high); low = omega (arith, y .low) }
 
   solves : Solves (Sol (at (t .m)) 17) (sourceBounds m z st)
   solves = d .narrowed .solves (d .some)

@@ -124,20 +124,21 @@ reads-rising x a v (t ∷ o) (j ∷ q) h (suc k) l =
 -- ---- the state after the step
 
 module _ (m : Model) (z : Zone) (st : Step) (p : Plan) (q : Planned m z st p) where
-  order-is : homeOf p .order ≡ homeAt m z st .order
+  pub order-is : homeOf p .order ≡ homeAt m z st .order
   order-is = ap (λ (h : Home). h .order) (q .home)
 
   -- as many variables as the queue after the step has
   pub plan-many : p .variables ≡ variables m (homeAt m z st .order)
   plan-many = q .many ∙ ap (variables m) order-is
 
--- the plan of a step: few variables, each from one that is there, with a small number added
+  -- each comes from one that is there
+  pub plan-into : variables m (z .order) ≤ 17 → (i : ℕ) → i < p .variables → var (p .from) i < 17
+  plan-into few i h = omega (arith, q .from i h, from-in m (homeOfZone z) st i)
+
+-- the plan of a step: few variables, with a small number added
 module _ (m : Model) (z : Zone) (st : Step) (p : Plan) (q : Planned m z st p) (w : RightModel m) where
   pub plan-few : p .variables ≤ 17
   plan-few = omega (arith, q .many, variables-few m w (p .count) (p .tasks) (q .few))
-
-  pub plan-into : variables m (z .order) ≤ 17 → (i : ℕ) → i < p .variables → var (p .from) i < 17
-  plan-into few i h = omega (arith, q .from i h, from-in m (homeOfZone z) st i)
 
   pub plan-size : (i : ℕ) → i < p .variables → Size (ent (p .off) i) 100000
   plan-size i h =
@@ -149,7 +150,7 @@ module _ (m : Model) (z : Zone) (st : Step) (rm : RangedModel m) (rz : RangedZon
   pub movable : RightModel m → variables m (z .order) ≤ 17 → ((k : ℕ) → var x k ≤ 300000000) → Movable (p .variables) (p .from) (p .off) x
   movable w few low = record {
     few = plan-few m z st p q w;
-    into = plan-into m z st p q w few;
+    into = plan-into m z st p q few;
     size = plan-size m z st p q w;
     low = low;
     room = λ i h.

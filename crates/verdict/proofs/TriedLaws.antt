@@ -30,7 +30,8 @@ use Rattle.verdict.specs.Answers.{faultOf, SaysAccepted, SaysFailed, Usa
 use Rattle.verdict.specs.Failing.{failing}
 use Rattle.verdict.specs.Judged.{AtPlace, Judged, ZoneTried}
 use Rattle.verdict.proofs.FoundLaws.{none-some}
-use Rattle.verdict.proofs.CountLaws.{nth-inside, claimed-length, claimed-named, upToZone, upto-next, zone-stands}
+use Rattle.verdict.proofs.CountLaws.{nth-inside, claimed-named, upToZone, upto-next, zone-stands}
+use Rattle.verdict.proofs.TryLaws.{place-few}
 
 -- what is not clear is a fault
 pub at-fault : (d : Fault) → (faultOf d ≡ none → ⊥) → (f : F.Fault) × (faultOf d ≡ some f)
@@ -57,11 +58,6 @@ module _ (m : Model) (n : ℕ) (z : Zone) where
   place-low : (x : ℕ) (o : Obligation) → AtPlace m n z x o → 1 ≤ x
   place-low zero o e = absurd (none-some e)
   place-low (suc x) o e = omega arith
-
-  place-high : (x : ℕ) (o : Obligation) → AtPlace m n z x o → x ≤ length (steps m z)
-  place-high zero o e = omega arith
-  place-high (suc x) o e =
-      omega (arith, nth-inside (claimed n z 1 (steps m z) (z .claims)) x o e, claimed-length n z 1 (steps m z) (z .claims))
 
   place-named : (x : ℕ) (o : Obligation) → AtPlace m n z x o → (A.zoneNumber o ≡ n) × (A.placeNumber o ≡ x)
   place-named zero o e = absurd (none-some e)
@@ -152,7 +148,7 @@ module _ (m : Model) (p : Proposal) where
         let number : r .number ≡ tried + r .place = k .3 in
         let q = k .4 .fails f e in
         let low = place-low m (n + 1) z (r .place) o here in
-        let high = place-high m (n + 1) z (r .place) o here in
+        let high = place-few m p (n + 1) z (r .place) o here in
         let named = place-named m (n + 1) z (r .place) o here in
         record {
           failure = record { number = r .number; zone = n + 1; place = r .place; fault = f; state = q .0 };

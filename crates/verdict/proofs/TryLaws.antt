@@ -20,6 +20,7 @@ use Rattle.verdict.specs.declared.answer.Tried.{Tried}
 use Rattle.verdict.specs.Answers.{faultOf}
 use Rattle.verdict.specs.Judged.{clear, AtPlace, HoldBefore, Judged, ZoneTried}
 use Rattle.verdict.proofs.FoundLaws.{none-some}
+use Rattle.verdict.proofs.CountLaws.{nth-inside, claimed-length}
 
 abbrev pub triedBy : ℕ → ℕ → Found → Tried
 triedBy n x f = record { number = n; place = x; found = f }
@@ -31,11 +32,6 @@ claimed-some n z k [] cs i h = absurd (omega arith)
 claimed-some n z k (s ∷ ss) cs zero h = (_, refl)
 claimed-some n z k (s ∷ ss) cs (suc i) h = claimed-some n z (suc k) ss (tail cs) i (omega arith)
 
-claimed-few : (n : ℕ) (z : Zone) (k : ℕ) (ss : List Step) (cs : List ℕ) (i : ℕ) (o : Obligation) → getElem? (claimed n z k ss cs) i ≡ some o → i < length ss
-claimed-few n z k [] cs i o e = absurd (none-some e)
-claimed-few n z k (s ∷ ss) cs zero o e = omega arith
-claimed-few n z k (s ∷ ss) cs (suc i) o e = let w = claimed-few n z (suc k) ss (tail cs) i o e in omega arith
-
 module _ (m : Model) (p : Proposal) (n : ℕ) (z : Zone) where
   -- at each place of the list
   pub place-some : (x : ℕ) → 1 ≤ x → x ≤ length (steps m z) → (o : Obligation) × AtPlace m n z x o
@@ -45,7 +41,7 @@ module _ (m : Model) (p : Proposal) (n : ℕ) (z : Zone) where
   -- and at no other
   pub place-few : (x : ℕ) (o : Obligation) → AtPlace m n z x o → x ≤ length (steps m z)
   place-few zero o e = absurd (none-some e)
-  place-few (suc i) o e = let w = claimed-few n z 1 (steps m z) (z .claims) i o e in omega arith
+  place-few (suc i) o e = omega (arith, nth-inside (claimed n z 1 (steps m z) (z .claims)) i o e, claimed-length n z 1 (steps m z) (z .claims))
 
   -- ---- the tries
 

@@ -1,4 +1,4 @@
-// Whether a step leads to the location and queue order of a zone of the proposal.
+// A zone of the proposal where it stands: its bounds, and whether a step leads to its location and queue order.
 ghost use mathlib.Core.Path.{_≡_};
 ghost use mathlib.Core.Bool.{true};
 ghost use mathlib.Core.Logic.{_↔_};
@@ -7,6 +7,11 @@ ghost use Rattle.verdict.specs.Tests.{SameHome};
 use zonetable::zones::location as location_of;
 use zonetable::zones::queue;
 use zonetable::zones::task;
+
+// Where the bounds of zone 1 stand in the proposal's table, and how many cells those of a zone take.
+pub(crate) const BOUNDS: usize = 384;
+
+pub(crate) const BOUNDS_OF_ZONE: usize = 289;
 
 // Has a zone of the proposal this location and queue order?
 pub(crate) fn same_home(

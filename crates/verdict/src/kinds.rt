@@ -19,6 +19,8 @@ ghost use Rattle.verdict.specs.Kinds.{LateBy, BrokenBy, BrokenIs};
 use crate::answer::Fault;
 use crate::answer::Found;
 use crate::found::holds;
+use crate::home::BOUNDS;
+use crate::home::BOUNDS_OF_ZONE;
 use crate::home::same_home;
 use crate::overflow::overflows;
 use bounds::Tight;
@@ -31,11 +33,6 @@ use shown::first_late;
 use shown::smallest;
 use shown::smallest_apart;
 use zones::Plan;
-
-// Where the bounds of a zone stand in the proposal's table.
-const BOUNDS: usize = 384;
-// How many cells they take.
-const BOUNDS_OF_ZONE: usize = 289;
 
 // The smallest state in which the job at a late position has the age D.
 fn late_at(model: &[u32], t: Tight, plan: Plan, late: u32) -> Found

@@ -8,14 +8,12 @@ ghost use Rattle.verdict.specs.Judged.{Judged};
 use crate::answer::Fault;
 use crate::answer::Found;
 use crate::found::holds;
+use crate::home::BOUNDS;
 use crate::home::same_home;
 use bounds::first_broken;
 use machine::start;
 use parts::clocks;
 use parts::released;
-
-// Where the bounds of zone 1 stand in the proposal's table.
-const BOUNDS: usize = 384;
 
 // It holds, or it fails by kind 4 or 5. All variables of the start are 0, so its matrix is.
 pub(crate) fn try_start(model: &[u32], zones: &[u32]) -> Found

@@ -3,7 +3,7 @@
 ghost use mathlib.Core.Path.{_≡_};
 ghost use Prim.Native.Nat.{ℕ, _+_, _-_, _*_, _≤_, _<_};
 ghost use Rattle.zonetable.specs.Sound.{queueIn};
-ghost use Rattle.zonetable.specs.Read.{locationAt, taskAt, boundAt, claimsAt, claimAt, Small, entryOfKept, BoundsRead, TasksRead, ZoneRead};
+ghost use Rattle.zonetable.specs.Read.{locationAt, taskAt, claimsAt, claimAt, Small, entryOfKept, BoundsRead, TasksRead, ZoneRead};
 use crate::counts;
 use crate::lengths;
 use parts::cells::cell;
@@ -38,17 +38,6 @@ pub fn task(table: &[u32], zone: u32, position: u32) -> u32
         table,
         8 * ((zone - 1) as usize) + 1 + ((position - 1) as usize),
     ))
-}
-
-// c of its bound of i minus j, 32,000 and 1; 0: there is none.
-pub(crate) fn bound(table: &[u32], zone: u32, i: u32, j: u32) -> u32
-    requires { ⌜ (1 ≤ zone) × (zone ≤ 48) × (i ≤ 16) × (j ≤ 16) ⌝ }
-    ensures { λ r. ⌜ r ≡ boundAt (now (table .entry)) zone i j ⌝ }
-{
-    cell(
-        table,
-        384 + 289 * ((zone - 1) as usize) + ((17 * i + j) as usize),
-    )
 }
 
 // How many claims it has.

@@ -29,7 +29,7 @@ module _ (s : tie.Start) where
   few = let d = s .pre .1 .1 .1 in plan-few (decode (s .args .table .now)) (d .zone) (d .step) (s .args .plan) (d .drawn .planned) right
 
   into : (a : ℕ) → a < s .args .plan .variables → var (s .args .plan .from) a < 17
-  into = let d = s .pre .1 .1 .1 in plan-into (decode (s .args .table .now)) (d .zone) (d .step) (s .args .plan) (d .drawn .planned) right (d .drawn .few)
+  into = let d = s .pre .1 .1 .1 in plan-into (decode (s .args .table .now)) (d .zone) (d .step) (s .args .plan) (d .drawn .planned) (d .drawn .few)
 
   size : (a : ℕ) → a < s .args .plan .variables → Size (ent (s .args .plan .off) a) 100000
   size = let d = s .pre .1 .1 .1 in plan-size (decode (s .args .table .now)) (d .zone) (d .step) (s .args .plan) (d .drawn .planned) right

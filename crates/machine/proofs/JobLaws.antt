@@ -9,7 +9,7 @@ use lib.Dec.{ltb, leb, eqb}
 use lib.ListN.{length, getD}
 use borrow.Author.Tests.{lt-ltb, le-ltb, eq-eqb, ne-eqb}
 use Rattle.meaning.specs.Lists.{elem, insertAt}
-use Rattle.meaning.specs.Model.{Policy, fps, edf, Task, Model, taskAt}
+use Rattle.meaning.specs.Model.{Policy, Model, taskAt}
 use Rattle.meaning.specs.Machine.State as M
 use Rattle.meaning.specs.Machine.State.{order}
 use Rattle.meaning.specs.Machine.Place.{beatsBy, beats, behind, placeOf}
@@ -18,14 +18,15 @@ use Rattle.meaning.specs.Machine.Tick.{finishes, isLate}
 use Rattle.meaning.specs.Text.Choice.{pick}
 use Rattle.meaning.specs.Text.ModelReader.{Given}
 use Rattle.meaning.specs.Text.ModelTable.{decode}
-use Rattle.meaning.specs.Text.ModelText.{policyNumber}
-use Rattle.meaning.proofs.Hooks.{beats-is, beatsBy-fps, beatsBy-edf, behind-none, overflows-is, finishes-none, finishes-is}
+use Rattle.meaning.proofs.Hooks.{beats-is, beatsBy-fps, beatsBy-edf, beatsBy-sjf, behind-none, overflows-is, finishes-none, finishes-is}
 use Rattle.meaning.proofs.Machine.Place.{FirstFit, fits-unique, place-is}
+use Rattle.meaning.proofs.Tests.{leb-same}
 use Rattle.meaning.proofs.Text.Choices.{by-eq, by-lt}
+use Rattle.meaning.proofs.Text.Policies.{policy-fps, policy-edf, policy-sjf}
 use Rattle.parts.specs.Parts.{policyIn, workIn, deadlineIn, priorityIn}
 use Rattle.parts.proofs.PartLaws.{policy-is, work-is, deadline-is, priority-is}
 use Rattle.machine.specs.Stands.{jobOf, cellsOf}
-use Rattle.machine.specs.ByCell.{beatsIn}
+use Rattle.machine.specs.ByCell.{soonerIn, shorterIn, beatsIn}
 use Rattle.machine.specs.ByQueue.{queueIn, releasedBy}
 use Rattle.machine.specs.declared.Job.{Job}
 use Rattle.machine.specs.declared.queue.Queue.{Queue}
@@ -46,61 +47,83 @@ finishes-head m d (j ∷ q) h = finishes-is m j q
 
 -- ---- who beats whom
 
-policy-fps : (p : Policy) → policyNumber p ≡ 1 → p ≡ fps
-unfolding policyNumber
-policy-fps fps e = refl
-policy-fps edf e = absurd (omega arith)
-
-policy-edf : (p : Policy) → (policyNumber p ≡ 1 → ⊥) → p ≡ edf
-unfolding policyNumber
-policy-edf fps e = absurd (e refl)
-policy-edf edf e = refl
-
 module _ (t : List ℕ) (g : Given t) (n : ℕ) (j : Job) where
+  -- the comparison under the policy that the table has
+  by-policy : {p : Policy} → decode t .policy ≡ p
+      → beats (decode t) n (jobOf j) ≡ beatsBy p n (taskAt (decode t) n) (taskAt (decode t) (j .task)) (jobOf j)
+  by-policy e =
+      beats-is (decode t) n (jobOf j) ∙ ap (λ (q : Policy). beatsBy q n (taskAt (decode t) n) (taskAt (decode t) (j .task)) (jobOf j)) e
+
   beats-fps : policyIn t ≡ 1 → beats (decode t) n (jobOf j) ≡ ltb (priorityIn t (j .task)) (priorityIn t n)
   beats-fps e =
-      let p = policy-fps (decode t .policy) (sym (policy-is t g) ∙ e) in
-      beats-is (decode t) n (jobOf j) ∙ ap (λ (q : Policy). beatsBy q n (taskAt (decode t) n) (taskAt (decode t) (j .task)) (jobOf j)) p
+      by-policy (policy-fps (decode t .policy) (sym (policy-is t g) ∙ e))
       ∙ beatsBy-fps n (taskAt (decode t) n) (taskAt (decode t) (j .task)) (jobOf j)
       ∙ ap₂ ltb (sym (priority-is t g (j .task))) (sym (priority-is t g n))
 
-  beats-edf : (policyIn t ≡ 1 → ⊥)
-      → beats (decode t) n (jobOf j) ≡ (ltb (deadlineIn t n + j .age) (deadlineIn t (j .task)) || (eqb (deadlineIn t n + j .age) (deadlineIn t (j .task)) && ltb (j .task) n))
+  beats-edf : policyIn t ≡ 2 → beats (decode t) n (jobOf j) ≡ soonerIn t n j
+  unfolding soonerIn
   beats-edf e =
-      let p = policy-edf (decode t .policy) (λ z. e (policy-is t g ∙ z)) in
-      beats-is (decode t) n (jobOf j) ∙ ap (λ (q : Policy). beatsBy q n (taskAt (decode t) n) (taskAt (decode t) (j .task)) (jobOf j)) p
+      by-policy (policy-edf (decode t .policy) (sym (policy-is t g) ∙ e))
       ∙ beatsBy-edf n (taskAt (decode t) n) (taskAt (decode t) (j .task)) (jobOf j)
       ∙ ap₂ (λ (a b : ℕ). ltb (a + j .age) b || (eqb (a + j .age) b && ltb (j .task) n)) (sym (deadline-is t g n)) (sym (deadline-is t g (j .task)))
+
+  beats-sjf : (policyIn t ≡ 1 → ⊥) → (policyIn t ≡ 2 → ⊥) → beats (decode t) n (jobOf j) ≡ shorterIn t n j
+  unfolding shorterIn
+  beats-sjf e f =
+      by-policy (policy-sjf (decode t .policy) (λ z. e (policy-is t g ∙ z)) (λ z. f (policy-is t g ∙ z)))
+      ∙ beatsBy-sjf n (taskAt (decode t) n) (taskAt (decode t) (j .task)) (jobOf j)
+      ∙ ap₂ (λ (a b : ℕ). ltb (a + j .done) b) (sym (work-is t g n)) (sym (work-is t g (j .task)))
 
   -- the comparison by the table's cells is the definition's
   pub beats-in : beatsIn t n j ≡ beats (decode t) n (jobOf j)
   unfolding beatsIn
-  beats-in = by-eq (policyIn t) 1 (λ e. rw (eq-eqb (policyIn t) 1 e) (sym (beats-fps e))) (λ e. rw (ne-eqb (policyIn t) 1 e) (sym (beats-edf e)))
+  beats-in =
+      by-eq (policyIn t) 1 (λ e. rw (eq-eqb (policyIn t) 1 e) (sym (beats-fps e)))
+      (λ e. by-eq (policyIn t) 2 (λ f. rw (ne-eqb (policyIn t) 1 e, eq-eqb (policyIn t) 2 f) (sym (beats-edf f)))
+      (λ f. rw (ne-eqb (policyIn t) 1 e, ne-eqb (policyIn t) 2 f) (sym (beats-sjf e f))))
 
 -- each way through the comparison
 module _ (t : List ℕ) (n : ℕ) (j : Job) where
+  pub sooner-older : deadlineIn t (j .task) < j .age → false ≡ soonerIn t n j
+  unfolding soonerIn
+  sooner-older h =
+      rw (le-ltb (deadlineIn t n + j .age) (deadlineIn t (j .task)) (omega arith), ne-eqb (deadlineIn t n + j .age) (deadlineIn t (j .task)) (omega arith))
+
+  pub sooner-tie : j .age ≤ deadlineIn t (j .task) → deadlineIn t n ≡ deadlineIn t (j .task) - j .age → ltb (j .task) n ≡ soonerIn t n j
+  unfolding soonerIn
+  sooner-tie h z =
+      rw (le-ltb (deadlineIn t n + j .age) (deadlineIn t (j .task)) (omega arith), eq-eqb (deadlineIn t n + j .age) (deadlineIn t (j .task)) (omega arith))
+
+  pub sooner-left : j .age ≤ deadlineIn t (j .task) → (deadlineIn t n ≡ deadlineIn t (j .task) - j .age → ⊥)
+      → ltb (deadlineIn t n) (deadlineIn t (j .task) - j .age) ≡ soonerIn t n j
+  unfolding soonerIn
+  sooner-left h z =
+      rw (ne-eqb (deadlineIn t n + j .age) (deadlineIn t (j .task)) (λ y. z (omega arith)))
+      (by-lt (deadlineIn t n) (deadlineIn t (j .task) - j .age)
+      (λ l. rw (lt-ltb (deadlineIn t n) (deadlineIn t (j .task) - j .age) l, lt-ltb (deadlineIn t n + j .age) (deadlineIn t (j .task)) (omega arith)))
+      (λ l. rw (le-ltb (deadlineIn t n) (deadlineIn t (j .task) - j .age) l, le-ltb (deadlineIn t n + j .age) (deadlineIn t (j .task)) (omega arith))))
+
+  pub shorter-over : workIn t (j .task) < j .done → false ≡ shorterIn t n j
+  unfolding shorterIn
+  shorter-over h = sym (le-ltb (workIn t n + j .done) (workIn t (j .task)) (omega arith))
+
+  pub shorter-owed : j .done ≤ workIn t (j .task) → ltb (workIn t n) (workIn t (j .task) - j .done) ≡ shorterIn t n j
+  unfolding shorterIn
+  shorter-owed h =
+      leb-same (suc (workIn t n)) (workIn t (j .task) - j .done) (suc (workIn t n + j .done)) (workIn t (j .task))
+      (λ (l : suc (workIn t n) ≤ workIn t (j .task) - j .done). omega arith) (λ (l : suc (workIn t n + j .done) ≤ workIn t (j .task)). omega arith)
+
   pub beats-ranks : policyIn t ≡ 1 → ltb (priorityIn t (j .task)) (priorityIn t n) ≡ beatsIn t n j
   unfolding beatsIn
   beats-ranks e = rw (eq-eqb (policyIn t) 1 e)
 
-  pub beats-older : (policyIn t ≡ 1 → ⊥) → deadlineIn t (j .task) < j .age → false ≡ beatsIn t n j
+  pub beats-sooner : (policyIn t ≡ 1 → ⊥) → policyIn t ≡ 2 → soonerIn t n j ≡ beatsIn t n j
   unfolding beatsIn
-  beats-older e h =
-      rw (ne-eqb (policyIn t) 1 e, le-ltb (deadlineIn t n + j .age) (deadlineIn t (j .task)) (omega arith), ne-eqb (deadlineIn t n + j .age) (deadlineIn t (j .task)) (omega arith))
+  beats-sooner e f = rw (ne-eqb (policyIn t) 1 e, eq-eqb (policyIn t) 2 f)
 
-  pub beats-tie : (policyIn t ≡ 1 → ⊥) → j .age ≤ deadlineIn t (j .task) → deadlineIn t n ≡ deadlineIn t (j .task) - j .age → ltb (j .task) n ≡ beatsIn t n j
+  pub beats-shorter : (policyIn t ≡ 1 → ⊥) → (policyIn t ≡ 2 → ⊥) → shorterIn t n j ≡ beatsIn t n j
   unfolding beatsIn
-  beats-tie e h z =
-      rw (ne-eqb (policyIn t) 1 e, le-ltb (deadlineIn t n + j .age) (deadlineIn t (j .task)) (omega arith), eq-eqb (deadlineIn t n + j .age) (deadlineIn t (j .task)) (omega arith))
-
-  pub beats-left : (policyIn t ≡ 1 → ⊥) → j .age ≤ deadlineIn t (j .task) → (deadlineIn t n ≡ deadlineIn t (j .task) - j .age → ⊥)
-      → ltb (deadlineIn t n) (deadlineIn t (j .task) - j .age) ≡ beatsIn t n j
-  unfolding beatsIn
-  beats-left e h z =
-      rw (ne-eqb (policyIn t) 1 e, ne-eqb (deadlineIn t n + j .age) (deadlineIn t (j .task)) (λ y. z (omega arith)))
-      (by-lt (deadlineIn t n) (deadlineIn t (j .task) - j .age)
-      (λ l. rw (lt-ltb (deadlineIn t n) (deadlineIn t (j .task) - j .age) l, lt-ltb (deadlineIn t n + j .age) (deadlineIn t (j .task)) (omega arith)))
-      (λ l. rw (le-ltb (deadlineIn t n) (deadlineIn t (j .task) - j .age) l, le-ltb (deadlineIn t n + j .age) (deadlineIn t (j .task)) (omega arith))))
+  beats-shorter e f = rw (ne-eqb (policyIn t) 1 e, ne-eqb (policyIn t) 2 f)
 
 -- ---- the place of a new job
 

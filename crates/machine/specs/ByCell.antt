@@ -81,12 +81,19 @@ leftOf n b = pick b (n - 1) n
 abbrev pub insertCell : List Job → ℕ → ℕ → Job → ℕ → Job
 insertCell js n p j k = pick (ltb k p) (getD js k noJob) (pick (eqb k p) j (pick (ltb n k) noJob (getD js (k - 1) noJob)))
 
--- a new job of task n beats the queued job j, by the table
+-- a new job of task n has fewer ticks left than the queued job j, by the table; at equality the larger number
+unfoldable pub soonerIn : List ℕ → ℕ → Job → Bool
+soonerIn t n j =
+    ltb (deadlineIn t n + j .age) (deadlineIn t (j .task)) || (eqb (deadlineIn t n + j .age) (deadlineIn t (j .task)) && ltb (j .task) n)
+
+-- it has less work than j still owes
+unfoldable pub shorterIn : List ℕ → ℕ → Job → Bool
+shorterIn t n j = ltb (workIn t n + j .done) (workIn t (j .task))
+
+-- it beats j
 unfoldable pub beatsIn : List ℕ → ℕ → Job → Bool
 beatsIn t n j =
-    pick (eqb (policyIn t) 1)
-    (ltb (priorityIn t (j .task)) (priorityIn t n))
-    (ltb (deadlineIn t n + j .age) (deadlineIn t (j .task)) || (eqb (deadlineIn t n + j .age) (deadlineIn t (j .task)) && ltb (j .task) n))
+    pick (eqb (policyIn t) 1) (ltb (priorityIn t (j .task)) (priorityIn t n)) (pick (eqb (policyIn t) 2) (soonerIn t n j) (shorterIn t n j))
 
 -- the job has work and time left, by the table
 abbrev pub timely : List ℕ → Job → Bool

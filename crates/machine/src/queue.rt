@@ -10,7 +10,7 @@ ghost use Rattle.meaning.specs.Machine.Place.{placeOf};
 ghost use Rattle.meaning.specs.Text.ModelReader.{Given};
 ghost use Rattle.meaning.specs.Text.ModelTable.{decode};
 ghost use Rattle.machine.specs.Stands.{jobOf, queueOf, cellsOf};
-ghost use Rattle.machine.specs.ByCell.{beatsIn, Young, agedCell, afterCell, insertCell, leftOf};
+ghost use Rattle.machine.specs.ByCell.{soonerIn, shorterIn, beatsIn, Young, agedCell, afterCell, insertCell, leftOf};
 ghost use Rattle.machine.specs.ByQueue.{releasedBy};
 use super::Job;
 
@@ -118,15 +118,12 @@ pub(crate) fn first_late(table: &[u32], jobs: [Job; 6], count: usize) -> u32
     0
 }
 
-// Does a new job of a task beat a queued job? By the larger priority; or by fewer ticks left, and at equality by the larger number.
-pub(crate) fn beats(table: &[u32], task: u32, job: Job) -> bool
-    ensures { λ r. ⌜ r ≡ beatsIn (now (table .entry)) task job ⌝ }
+// Has a new job of a task fewer ticks left to its deadline than a queued job? At equality the larger number decides.
+fn is_sooner(table: &[u32], task: u32, job: Job) -> bool
+    ensures { λ r. ⌜ r ≡ soonerIn (now (table .entry)) task job ⌝ }
 {
     let other = job.task;
     let age = job.age;
-    if parts::policy(table) == 1 {
-        return parts::priority(table, other) < parts::priority(table, task);
-    }
     let due = parts::deadline(table, other);
     if due < age {
         return false;
@@ -137,6 +134,32 @@ pub(crate) fn beats(table: &[u32], task: u32, job: Job) -> bool
         return other < task;
     }
     fresh < left
+}
+
+// Has a new job of a task less work than a queued job still owes?
+fn is_shorter(table: &[u32], task: u32, job: Job) -> bool
+    ensures { λ r. ⌜ r ≡ shorterIn (now (table .entry)) task job ⌝ }
+{
+    let work = parts::work(table, job.task);
+    let done = job.done;
+    if work < done {
+        return false;
+    }
+    parts::work(table, task) < work - done // at equality the queued job stays ahead
+}
+
+// Does a new job of a task beat a queued job? By the larger priority, by fewer ticks left, or by less work.
+pub(crate) fn beats(table: &[u32], task: u32, job: Job) -> bool
+    ensures { λ r. ⌜ r ≡ beatsIn (now (table .entry)) task job ⌝ }
+{
+    let policy = parts::policy(table);
+    if policy == 1 {
+        return parts::priority(table, job.task) < parts::priority(table, task);
+    }
+    if policy == 2 {
+        return is_sooner(table, task, job);
+    }
+    is_shorter(table, task, job)
 }
 
 // How many jobs of the queue stay ahead of a new job of a task: it goes in front of the first that it beats, else last.

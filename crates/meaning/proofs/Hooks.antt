@@ -10,7 +10,7 @@ use lib.Dec.{leb, ltb, eqb}
 use lib.ListN.{length}
 use borrow.Author.Tests.{eqb-true, eqb-false, ne-eqb, leb-true, leb-false}
 use Rattle.meaning.specs.Lists.{elem, insertAt, every}
-use Rattle.meaning.specs.Model.{fps, edf, Task, Model, Edge, Location, taskAt, locationAt, releases, leavesAt, target, released, releasedAtStart}
+use Rattle.meaning.specs.Model.{fps, edf, sjf, Task, Model, Edge, Location, taskAt, locationAt, releases, leavesAt, target, released, releasedAtStart}
 use Rattle.meaning.specs.Machine.State.{Job, State, order}
 use Rattle.meaning.specs.Machine.Place.{behind, beats, beatsBy}
 use Rattle.meaning.specs.Machine.Release.{overflows, overflowsAny}
@@ -35,6 +35,11 @@ beatsBy-fps n t u j = refl
 pub beatsBy-edf : (n : ℕ) (t u : Task) (j : Job) → beatsBy edf n t u j ≡ (ltb (t .D + j .age) (u .D) || (eqb (t .D + j .age) (u .D) && ltb (j .task) n))
 unfolding beatsBy
 beatsBy-edf n t u j = refl
+
+-- M-100: "its computing time is less than what the queued job still owes, which is C minus done"
+pub beatsBy-sjf : (n : ℕ) (t u : Task) (j : Job) → beatsBy sjf n t u j ≡ ltb (t .C + j .done) (u .C)
+unfolding beatsBy
+beatsBy-sjf n t u j = refl
 
 -- ── the first allowed place ────────────────────────────────────────────────────────────────────
 

@@ -1,2 +1,3 @@
 pub mod Place
 pub mod Proper
+pub mod Runs

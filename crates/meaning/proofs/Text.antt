@@ -1,6 +1,7 @@
 -- The laws and theorems of the texts.
 -- Assumes nothing.
 pub mod Choices
+pub mod Policies
 pub mod NumeralLaws
 pub mod NumeralRound
 pub mod NumeralSmall

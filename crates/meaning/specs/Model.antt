@@ -7,9 +7,9 @@ use lib.Dec.{eqb}
 use lib.IntN.{ℤ}
 use Rattle.meaning.specs.Lists.{nth1D}
 
--- PO: "1 FPS, 2 EDF"
+-- PO: "1 FPS, 2 EDF"; document 02, M-100: "PO may be 3", shortest job first
 pub data Policy : Type 0 where
-  fps edf : Policy
+  fps edf sjf : Policy
 
 -- TK: "C and D, 1 to 10,000; priority 0 to 6"
 pub record Task : Type 0 where

@@ -17,6 +17,8 @@ use crate::tables;
 // The ends of document 01's ranges.
 const CLOCKS_MOST: u32 = 4;
 
+const POLICIES_MOST: u32 = 3;
+
 const TIME_MOST: u32 = 10000;
 
 const PRIO_MOST: u32 = 6;
@@ -156,7 +158,7 @@ pub(crate) fn ranges_of(q: u32, t: &[u32]) -> Ranges
     ensures { λ r. ⌜ RangesAre (rule (markNo q) (now (t .entry)) .ends) r ⌝ }
 {
     match q {
-        1 => one(1, 2),
+        1 => one(1, POLICIES_MOST),
         2 => one(0, CLOCKS_MOST),
         3 => of_task(),
         4 => one(0, tables::tasks(t) as u32),
@@ -197,7 +199,7 @@ fn used(t: &[u32], p: u32) -> bool
     false
 }
 
-// FPS: priority 0 or used before. EDF: not 0.
+// FPS: priority 0 or used before. EDF and SJF: not 0.
 fn misfit(t: &[u32], p: u32) -> bool
     requires { ⌜ (length (now t) ≡ size) × (p ≤ prioMost) ⌝ }
     ensures { λ r. ⌜ r ≡ reader.misfit (now (t .entry)) p ⌝ }

@@ -25,7 +25,7 @@ unfoldable pub ofEdge : List ℕ → ℕ → ℕ → ℕ
 ofEdge t zero r = 0
 ofEdge t (suc k) r = pick (ltb k edgesMost) (getD t (edgeSlot k + r) 0) 0
 
--- the policy's number: "1 FPS, 2 EDF"
+-- the policy's number: "1 FPS, 2 EDF"; M-100: "PO may be 3"
 abbrev pub policyIn : List ℕ → ℕ
 policyIn t = getD t policySlot 0 - 1
 

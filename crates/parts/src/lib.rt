@@ -14,7 +14,7 @@ use cells::of_edge;
 use cells::of_location;
 use cells::of_task;
 
-// The policy's number: 1 FPS, 2 EDF.
+// The policy's number: 1 FPS, 2 EDF, 3 SJF.
 pub fn policy(table: &[u32]) -> u32
     ensures { λ r. ⌜ r ≡ policyIn (now (table .entry)) ⌝ }
 {

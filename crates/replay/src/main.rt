@@ -74,7 +74,7 @@ fn print_next(first: &mut [u8], second: &mut [u8]) -> bool {
 fn main() {
     let mut first = [0u8; 70000];
     let mut second = [0u8; 70000];
-    let mut turns: u64 = 4000;
+    let mut turns: u64 = 8000;
     while turns > 0 && print_next(&mut first, &mut second) {
         turns -= 1;
     }

@@ -117,6 +117,7 @@ fn show_lengths() {
 fn show_models() {
     show_model_with(0, 2);
     show_model_with(0, 4);
+    show_model_with(0, 5);
     show_model_with(1, 1);
     show_model_with(1, 6);
     show_model_with(2, 0);

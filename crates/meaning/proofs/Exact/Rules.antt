@@ -9,7 +9,7 @@ use lib.Dec.{leb, ltb, eqb}
 use lib.IntN.{ℤ, subℕ}
 use borrow.Author.Tests.{ltb-true, ltb-false, le-leb, lt-leb, eqb-true, eqb-false}
 use Rattle.meaning.specs.Numbers.{over, under, within}
-use Rattle.meaning.specs.Model.{Policy, fps, edf, Task, Model, taskAt}
+use Rattle.meaning.specs.Model.{Policy, fps, edf, sjf, Task, Model, taskAt}
 use Rattle.meaning.specs.Machine.State.{Job}
 use Rattle.meaning.specs.Machine.Place.{beatsBy, beats}
 use Rattle.meaning.proofs.Tests.{leb-same}
@@ -40,6 +40,7 @@ tie n k = cond (ltb k n) 0 1
 abbrev pub ruleOf : Policy → ℕ → Task → ℕ → Task → Rule
 ruleOf fps n t k u = fixed (ltb (u .prio) (t .prio))
 ruleOf edf n t k u = ageAtMost (subℕ (u .D) (t .D + tie n k))
+ruleOf sjf n t k u = doneAtMost (subℕ (u .C) (t .C + 1))
 
 fixed-test : (b : Bool) (j : Job) → ruleTest (fixed b) j ≡ b
 fixed-test true j = refl
@@ -84,10 +85,21 @@ rule-right edf n t u j = go (ltb (j .task) n)
       where
         z : ℤ
         z = subℕ (u .D) (t .D + 1)
+rule-right sjf n t u j =
+    leb-same (j .done + under z) (0 + over z) (suc (t .C + j .done)) (u .C)
+    (λ (h : j .done + under z ≤ 0 + over z). omega (arith, sub-parts (u .C) (t .C + 1)))
+    (λ (h : suc (t .C + j .done) ≤ u .C). omega (arith, sub-parts (u .C) (t .C + 1)))
+  where
+    z : ℤ
+    z = subℕ (u .C) (t .C + 1)
 
--- the rule between two tasks of a model
+-- the rule between two tasks of a model under a policy
+abbrev pub ruleBy : Policy → Model → ℕ → ℕ → Rule
+ruleBy p m t k = ruleOf p t (taskAt m t) k (taskAt m k)
+
+-- the same under the model's own
 abbrev pub ruleAt : Model → ℕ → ℕ → Rule
-ruleAt m t k = ruleOf (m .policy) t (taskAt m t) k (taskAt m k)
+ruleAt m t k = ruleBy (m .policy) m t k
 
 -- a new job of task t beats a queued job of task k exactly if their rule holds of it
 pub beats-rule : (m : Model) (t k : ℕ) (j : Job) → j .task ≡ k → ruleTest (ruleAt m t k) j ≡ beats m t j

@@ -10,7 +10,7 @@ use native.Mathlib.Decide.{ℕ-discrete}
 use lib.Dec.{leb, ltb, eqb}
 use borrow.Author.Tests.{leb-true, leb-false, le-leb, lt-leb, lt-ltb, le-ltb, eqb-true, eqb-false, eq-eqb, ne-eqb}
 use Rattle.meaning.specs.Lists.{insertAt, first, next}
-use Rattle.meaning.specs.Model.{Policy, fps, edf, Task, Edge, Model, taskAt, released}
+use Rattle.meaning.specs.Model.{Policy, fps, edf, sjf, Task, Edge, Model, taskAt, released}
 use Rattle.meaning.specs.Machine.State.{Job, State, order}
 use Rattle.meaning.specs.Machine.Place.{place, placeFrom, beatsBy, beats, placeOf}
 use Rattle.meaning.specs.Machine.Release.{newJob, put, putAll}
@@ -115,7 +115,7 @@ miss-published m s p =
 
 -- ── an edge is an action ───────────────────────────────────────────────────────────────────────
 
--- the two orders agree: D of the new job against D minus age of the queued one
+-- the two orders agree: D of the new job against D minus age of the queued one, C against C minus done
 beats-higher : (p : Policy) (n : ℕ) (t u : Task) (j : Job) → j .age ≤ u .D
     → beatsBy p n t u j ≡ higherBy p t u (mkReady n (t .C) (t .D)) (mkReady (j .task) (u .C - j .done) (u .D - j .age))
 unfolding beatsBy higherBy
@@ -132,6 +132,9 @@ beats-higher edf n t u j a = ap₂ (λ (x y : Bool). x || (y && ltb (j .task) n)
         go : Dec (t .D + j .age ≡ u .D) → eqb (t .D + j .age) (u .D) ≡ eqb (t .D) (u .D - j .age)
         go (yes e) = eq-eqb (t .D + j .age) (u .D) e ∙ sym (eq-eqb (t .D) (u .D - j .age) (omega arith))
         go (no e) = ne-eqb (t .D + j .age) (u .D) e ∙ sym (ne-eqb (t .D) (u .D - j .age) (λ f. e (omega arith)))
+beats-higher sjf n t u j a =
+    leb-same (suc (t .C + j .done)) (u .C) (suc (t .C)) (u .C - j .done)
+    (λ (h : suc (t .C + j .done) ≤ u .C). omega arith) (λ (h : suc (t .C) ≤ u .C - j .done). omega arith)
 
 place-same : {A B : Type 0} (f : A → B) (b : A → Bool) (c : B → Bool) (q : List A) → ((x : A) → List·Memᴰ x q → b x ≡ c (f x))
     → place b q ≡ place c (map f q)
@@ -139,18 +142,23 @@ place-same f b c [] h = refl
 place-same f b c (x ∷ q) h =
     ap₂ (λ (y : Bool) (k : ℕ). cond y zero (suc k)) (h x (List·Memᴰ·head refl)) (place-same f b c q (λ y g. h y (List·Memᴰ·tail g)))
 
+-- 01's and 02's rule of who beats whom is the order of what is left
+pub beats-is-higher : (m : Model) (t : ℕ) (j : Job) → j .age ≤ taskAt m (j .task) .D → beats m t j ≡ higher m (fresh m t) (readyOf m j)
+beats-is-higher m t j a = beats-is m t j ∙ beats-higher (m .policy) t (taskAt m t) (taskAt m (j .task)) j a
+
+-- a new job has all of C and all of D left
+pub fresh-is : (m : Model) (t : ℕ) → readyOf m (newJob t) ≡ fresh m t
+fresh-is m t = ap₂ (mkReady t) (omega arith) (omega arith)
+
 put-published : (m : Model) (t : ℕ) (q : List Job) → Aged m q → map (readyOf m) (put m t q) ≡ releaseInto m t (map (readyOf m) q)
 put-published m t q a =
     map-insertAt (readyOf m) (placeOf m t q) (newJob t) q
-    ∙ ap₂ (λ (k : ℕ) (r : Ready). insertAt k r (map (readyOf m) q)) where-to new
+    ∙ ap₂ (λ (k : ℕ) (r : Ready). insertAt k r (map (readyOf m) q)) where-to (fresh-is m t)
   where
     where-to : placeOf m t q ≡ place (higher m (fresh m t)) (map (readyOf m) q)
     where-to = ap (λ (k : ℕ). placeFrom k (beats m t) q) (behind-none m t (order q))
         ∙ place-same (readyOf m) (beats m t) (higher m (fresh m t)) q
-        (λ j h. beats-is m t j ∙ beats-higher (m .policy) t (taskAt m t) (taskAt m (j .task)) j (a j h))
-
-    new : readyOf m (newJob t) ≡ fresh m t
-    new = ap₂ (mkReady t) (omega arith) (omega arith)
+        (λ j h. beats-is-higher m t j (a j h))
 
 put-aged : (m : Model) (t : ℕ) (q : List Job) → Aged m q → Aged m (put m t q)
 put-aged m t q a j h = ⊎-elim (λ (e : j ≡ newJob t). rw e (omega arith)) (λ g. a j g) (mem-insertAt (placeOf m t q) q h)

@@ -4,28 +4,24 @@ use mathlib.Core.Path.{_≡_, refl, sym, _∙_, ap, subst, fun-ext}
 use mathlib.Core.Logic.{_⊎_, inl, inr, ⊎-elim}
 use mathlib.Core.Bool.{Bool, true, false, cond, _&&_, _||_}
 use mathlib.Core.List.{List, [], _∷_, map, List·Memᴰ, List·Memᴰ·head, List·Memᴰ·tail, List·Memᴰ·cases-cons, List·Memᴰ·not-nil, List·Memᴰ·eq-of-singleton}
-use mathlib.Core.Option.{Option, none, some}
 use Prim.Native.Nat.{ℕ, zero, suc, _+_, _≤_, _<_}
 use native.Mathlib.Omega.{arith}
 use native.Mathlib.Decide.{ℕ-discrete}
 use lib.Dec.{ltb, eqb}
 use lib.ListN.{length, getD}
-use borrow.Author.Tests.{ltb-true, ltb-false, eqb-true, eqb-false, lt-ltb, le-ltb, eq-eqb}
-use Rattle.meaning.specs.Lists.{nth1, insertAt}
-use Rattle.meaning.specs.Model.{Policy, fps, edf, Task, Location, Edge, Model, noLocation, taskAt, locationAt, releases, released, releasedAtStart}
+use borrow.Author.Tests.{ltb-true, ltb-false, eqb-true, eqb-false, lt-ltb, le-ltb, eq-eqb, ne-eqb}
+use Rattle.meaning.specs.Lists.{insertAt}
+use Rattle.meaning.specs.Model.{Policy, fps, edf, sjf, Task, Location, Model, noLocation, taskAt, locationAt, releases}
 use Rattle.meaning.specs.Machine.State.{Job, State, order}
 use Rattle.meaning.specs.Machine.Place.{beatsBy, beats, place, placeFrom, placeOf}
-use Rattle.meaning.specs.Machine.Release.{overflows, overflowsAny, newJob, put, putAll}
-use Rattle.meaning.specs.Machine.Tick.{older, worked, served, finishes, tickTo, late}
-use Rattle.meaning.specs.Machine.Edge.{entered}
-use Rattle.meaning.specs.Machine.Step.{Event, tick, edge, went, overflow, judged, movedBy, act, after}
-use Rattle.meaning.specs.Machine.Run.{start, Run, begin, more}
+use Rattle.meaning.specs.Machine.Release.{overflows, newJob, put}
+use Rattle.meaning.specs.Machine.Tick.{older, worked, served}
+use Rattle.meaning.specs.Machine.Run.{Run}
 use Rattle.meaning.specs.Published.Order.{aheadBy, ahead, Stands, IsSch, TaskOf, TasksOf, Annotated, RankedBy, Ranked}
 use Rattle.meaning.proofs.Tests.{and-left, and-right, or-left, or-right}
 use Rattle.meaning.proofs.Lists.{mem-map, mem-map-inv, mem-insertAt}
-use Rattle.meaning.proofs.Hooks.{beats-is, behind-none, overflows-absent, start-fits, released-is, releasedAtStart-is}
-use Rattle.meaning.proofs.Machine.Place.{order-put}
-use Rattle.meaning.proofs.Machine.Proper.{overflowsAny-insertAt}
+use Rattle.meaning.proofs.Hooks.{beats-is, behind-none, overflows-absent}
+use Rattle.meaning.proofs.Machine.Runs.{run-keeps}
 use Rattle.meaning.proofs.Published.Sorted.{new-insertAt, old-insertAt, map-in-order, insert-in-order, in-order-one}
 
 -- ── first by one number, at equality by another ────────────────────────────────────────────────
@@ -51,8 +47,27 @@ lex-false a b c d h = go (ℕ-discrete a b)
     go (yes e) = inr (e, ltb-false c d (rw (eq-eqb a b e) at (or-right (ltb a b) (eqb a b && ltb c d) h)))
     go (no n) = inl (omega (arith, ltb-false a b (or-left (ltb a b) (eqb a b && ltb c d) h)))
 
+lex-not : (a b c d : ℕ) → (b < a) ⊎ ((a ≡ b) × (d ≤ c)) → lex a b c d ≡ false
+lex-not a b c d (inl h) = simp (le-ltb a b (omega arith), ne-eqb a b (omega arith))
+lex-not a b c d (inr h) = simp (le-ltb a b (omega arith), eq-eqb a b (h .0), le-ltb c d (h .1))
+
 lex-irrefl : (a c : ℕ) → lex a a c c ≡ false
 lex-irrefl a c = simp (le-ltb a a (omega arith), eq-eqb a a refl, le-ltb c c (omega arith))
+
+lex-suc : (a b c d : ℕ) → lex (suc a) (suc b) c d ≡ lex a b c d
+lex-suc a b c d = go (lex a b c d) refl
+  where
+    more : (a < b) ⊎ ((a ≡ b) × (c < d)) → (suc a < suc b) ⊎ ((suc a ≡ suc b) × (c < d))
+    more (inl h) = inl (omega arith)
+    more (inr h) = inr (omega arith)
+
+    less : (b < a) ⊎ ((a ≡ b) × (d ≤ c)) → (suc b < suc a) ⊎ ((suc a ≡ suc b) × (d ≤ c))
+    less (inl h) = inl (omega arith)
+    less (inr h) = inr (omega arith)
+
+    go : (x : Bool) → lex a b c d ≡ x → lex (suc a) (suc b) c d ≡ x
+    go true e = lex-make (suc a) (suc b) c d (more (lex-read a b c d e))
+    go false e = lex-not (suc a) (suc b) c d (less (lex-false a b c d e))
 
 -- ── the laws of each policy ────────────────────────────────────────────────────────────────────
 
@@ -60,11 +75,13 @@ beatsBy-ahead : (p : Policy) (n : ℕ) (t u : Task) (j : Job) → beatsBy p n t 
 unfolding beatsBy aheadBy
 beatsBy-ahead fps n t u j = refl
 beatsBy-ahead edf n t u j = let e : u .D + 0 ≡ u .D = omega arith in rw e refl
+beatsBy-ahead sjf n t u j = let e : u .C + 0 ≡ u .C = omega arith in rw e refl
 
 aheadBy-irrefl : (p : Policy) (t : Task) (j : Job) → aheadBy p t t j j ≡ false
 unfolding aheadBy
 aheadBy-irrefl fps t j = le-ltb (t .prio) (t .prio) (omega arith)
 aheadBy-irrefl edf t j = lex-irrefl (t .D + j .age) (j .task)
+aheadBy-irrefl sjf t j = le-ltb (t .C + j .done) (t .C + j .done) (omega arith)
 
 aheadBy-trans : (p : Policy) (t u v : Task) (i j k : Job) → aheadBy p t u i j ≡ true → aheadBy p u v j k ≡ true → aheadBy p t v i k ≡ true
 unfolding aheadBy
@@ -81,11 +98,35 @@ aheadBy-trans edf t u v i j k h g =
     go (inl x) (inr y) = inl (omega arith)
     go (inr x) (inl y) = inl (omega arith)
     go (inr x) (inr y) = inr (omega arith)
+aheadBy-trans sjf t u v i j k h g =
+    lt-ltb (t .C + k .done) (v .C + i .done)
+    (omega (arith, ltb-true (t .C + j .done) (u .C + i .done) h, ltb-true (u .C + k .done) (v .C + j .done) g))
+
+-- one that is not ahead of a second, which is not ahead of a third, is not ahead of the third
+aheadBy-apart : (p : Policy) (t u v : Task) (i j k : Job) → aheadBy p t u i j ≡ false → aheadBy p u v j k ≡ false → aheadBy p t v i k ≡ false
+unfolding aheadBy
+aheadBy-apart fps t u v i j k h g =
+    le-ltb (v .prio) (t .prio) (omega (arith, ltb-false (u .prio) (t .prio) h, ltb-false (v .prio) (u .prio) g))
+aheadBy-apart edf t u v i j k h g =
+    lex-not (t .D + k .age) (v .D + i .age) (k .task) (i .task)
+    (go (lex-false (t .D + j .age) (u .D + i .age) (j .task) (i .task) h) (lex-false (u .D + k .age) (v .D + j .age) (k .task) (j .task) g))
+  where
+    go : (u .D + i .age < t .D + j .age) ⊎ ((t .D + j .age ≡ u .D + i .age) × (i .task ≤ j .task))
+        → (v .D + j .age < u .D + k .age) ⊎ ((u .D + k .age ≡ v .D + j .age) × (j .task ≤ k .task))
+        → (v .D + i .age < t .D + k .age) ⊎ ((t .D + k .age ≡ v .D + i .age) × (i .task ≤ k .task))
+    go (inl x) (inl y) = inl (omega arith)
+    go (inl x) (inr y) = inl (omega arith)
+    go (inr x) (inl y) = inl (omega arith)
+    go (inr x) (inr y) = inr (omega arith)
+aheadBy-apart sjf t u v i j k h g =
+    le-ltb (t .C + k .done) (v .C + i .done)
+    (omega (arith, ltb-false (t .C + j .done) (u .C + i .done) h, ltb-false (u .C + k .done) (v .C + j .done) g))
 
 -- of the jobs of two tasks of the model one is ahead
 aheadBy-total : (p : Policy) (m : Model) → RankedBy p m → (i j : Job) → TaskOf m (i .task) → TaskOf m (j .task) → (i .task ≡ j .task → ⊥)
     → aheadBy p (taskAt m (i .task)) (taskAt m (j .task)) i j ≡ false → aheadBy p (taskAt m (j .task)) (taskAt m (i .task)) j i ≡ true
 unfolding aheadBy
+aheadBy-total sjf m ranked i j ti tj other h = absurd ranked
 aheadBy-total fps m ranked i j ti tj other h =
     let le = ltb-false (taskAt m (j .task) .prio) (taskAt m (i .task) .prio) h in
     let ne : taskAt m (i .task) .prio ≡ taskAt m (j .task) .prio → ⊥ = λ e. other (ranked (i .task) (j .task) ti tj e) in
@@ -102,23 +143,27 @@ aheadBy-total edf m ranked i j ti tj other h =
     go (inr x) = inr (omega arith)
 
 -- a tick keeps who is ahead
-aheadBy-older : (p : Policy) (t u : Task) (i j : Job) → aheadBy p t u i j ≡ true → aheadBy p t u (older i) (older j) ≡ true
+aheadBy-older : (p : Policy) (t u : Task) (i j : Job) → aheadBy p t u (older i) (older j) ≡ aheadBy p t u i j
 unfolding aheadBy
-aheadBy-older fps t u i j h = h
-aheadBy-older edf t u i j h =
-    lex-make (t .D + suc (j .age)) (u .D + suc (i .age)) (j .task) (i .task)
-    (go (lex-read (t .D + j .age) (u .D + i .age) (j .task) (i .task) h))
-  where
-    go : (t .D + j .age < u .D + i .age) ⊎ ((t .D + j .age ≡ u .D + i .age) × (j .task < i .task))
-        → (t .D + suc (j .age) < u .D + suc (i .age)) ⊎ ((t .D + suc (j .age) ≡ u .D + suc (i .age)) × (j .task < i .task))
-    go (inl x) = inl (omega arith)
-    go (inr x) = inr (omega arith)
+aheadBy-older fps t u i j = refl
+aheadBy-older edf t u i j =
+    let e : t .D + suc (j .age) ≡ suc (t .D + j .age) = omega arith in
+    let f : u .D + suc (i .age) ≡ suc (u .D + i .age) = omega arith in
+    rw (e, f) (lex-suc (t .D + j .age) (u .D + i .age) (j .task) (i .task))
+aheadBy-older sjf t u i j = refl
 
--- and so does the head's work
+-- the head's work lets nobody past it
 aheadBy-worked : (p : Policy) (t u : Task) (i j : Job) → aheadBy p t u (older i) j ≡ true → aheadBy p t u (worked i) j ≡ true
 unfolding aheadBy
 aheadBy-worked fps t u i j h = h
 aheadBy-worked edf t u i j h = h
+aheadBy-worked sjf t u i j h = lt-ltb (t .C + j .done) (u .C + suc (i .done)) (omega (arith, ltb-true (t .C + j .done) (u .C + i .done) h))
+
+aheadBy-unworked : (p : Policy) (t u : Task) (i j : Job) → aheadBy p t u i (older j) ≡ false → aheadBy p t u i (worked j) ≡ false
+unfolding aheadBy
+aheadBy-unworked fps t u i j h = h
+aheadBy-unworked edf t u i j h = h
+aheadBy-unworked sjf t u i j h = le-ltb (t .C + suc (j .done)) (u .C + i .done) (omega (arith, ltb-false (t .C + j .done) (u .C + i .done) h))
 
 -- ── who is ahead, by the model's policy ────────────────────────────────────────────────────────
 
@@ -136,11 +181,17 @@ pub ahead-total : (m : Model) → Ranked m → (i j : Job) → TaskOf m (i .task
     → ahead m i j ≡ false → ahead m j i ≡ true
 ahead-total m ranked i j ti tj other h = aheadBy-total (m .policy) m ranked i j ti tj other h
 
-ahead-older : (m : Model) (i j : Job) → ahead m i j ≡ true → ahead m (older i) (older j) ≡ true
-ahead-older m i j h = aheadBy-older (m .policy) (taskAt m (i .task)) (taskAt m (j .task)) i j h
+pub ahead-apart : (m : Model) (i j k : Job) → ahead m i j ≡ false → ahead m j k ≡ false → ahead m i k ≡ false
+ahead-apart m i j k h g = aheadBy-apart (m .policy) (taskAt m (i .task)) (taskAt m (j .task)) (taskAt m (k .task)) i j k h g
+
+pub ahead-older : (m : Model) (i j : Job) → ahead m (older i) (older j) ≡ ahead m i j
+ahead-older m i j = aheadBy-older (m .policy) (taskAt m (i .task)) (taskAt m (j .task)) i j
 
 ahead-worked : (m : Model) (i j : Job) → ahead m (older i) j ≡ true → ahead m (worked i) j ≡ true
 ahead-worked m i j h = aheadBy-worked (m .policy) (taskAt m (i .task)) (taskAt m (j .task)) i j h
+
+pub ahead-unworked : (m : Model) (i j : Job) → ahead m i (older j) ≡ false → ahead m i (worked j) ≡ false
+ahead-unworked m i j h = aheadBy-unworked (m .policy) (taskAt m (i .task)) (taskAt m (j .task)) i j h
 
 -- ── sorting and insertion ──────────────────────────────────────────────────────────────────────
 
@@ -154,14 +205,14 @@ placeOf-ahead : (m : Model) (t : ℕ) (q : List Job) → placeOf m t q ≡ place
 placeOf-ahead m t q =
     ap (λ (k : ℕ). placeFrom k (beats m t) q) (behind-none m t (order q)) ∙ ap (λ (b : Job → Bool). place b q) (fun-ext (beats-ahead m t))
 
-put-ahead : (m : Model) (t : ℕ) (q : List Job) → put m t q ≡ insertAt (place (ahead m (newJob t)) q) (newJob t) q
+pub put-ahead : (m : Model) (t : ℕ) (q : List Job) → put m t q ≡ insertAt (place (ahead m (newJob t)) q) (newJob t) q
 put-ahead m t q = ap (λ (k : ℕ). insertAt k (newJob t) q) (placeOf-ahead m t q)
 
 -- a release without an overflow keeps the order
 pub put-stands : (m : Model) (t : ℕ) (q : List Job) → Ranked m → Stands m q → overflows m t (order q) ≡ false → TaskOf m t → TasksOf m q
     → Stands m (put m t q)
 put-stands m t q ranked s free tn tq =
-    subst (Stands m) (sym (put-ahead m t q)) (insert-in-order (ahead m) (ahead-trans m) (newJob t) q total s)
+    subst (Stands m) (sym (put-ahead m t q)) (insert-in-order (ahead m) (ahead-trans m) (ahead m (newJob t)) (newJob t) q (λ j h e. e) total s)
   where
     total : (j : Job) → List·Memᴰ j q → ahead m (newJob t) j ≡ false → ahead m j (newJob t) ≡ true
     total j h e = ahead-total m ranked (newJob t) j tn (tq j h) other e
@@ -189,13 +240,13 @@ insert-sorts m t q ranked s free tn tq = record { all = all; only = only; sorted
 -- a tick keeps the order
 pub served-stands : (m : Model) (b : Bool) (q : List Job) → Stands m q → Stands m (served b q)
 served-stands m b [] s = s
-served-stands m true (x ∷ q) s = map-in-order (ahead m) older (ahead-older m) q (s .1)
-served-stands m false (x ∷ q) s = (first, map-in-order (ahead m) older (ahead-older m) q (s .1))
+served-stands m true (x ∷ q) s = map-in-order (ahead m) older (λ i j h. ahead-older m i j ∙ h) q (s .1)
+served-stands m false (x ∷ q) s = (first, map-in-order (ahead m) older (λ i j h. ahead-older m i j ∙ h) q (s .1))
   where
     first : (j : Job) → List·Memᴰ j (map older q) → ahead m (worked x) j ≡ true
     first j h =
         let r = mem-map-inv older q h in
-        ap (ahead m (worked x)) (r .2) ∙ ahead-worked m x (older (r .0)) (ahead-older m x (r .0) (s .0 (r .0) (r .1)))
+        ap (ahead m (worked x)) (r .2) ∙ ahead-worked m x (older (r .0)) (ahead-older m x (r .0) ∙ s .0 (r .0) (r .1))
 
 cast-task : (m : Model) {i j : Job} → i ≡ j → TaskOf m (j .task) → TaskOf m (i .task)
 cast-task m e h = subst (λ (x : Job). TaskOf m (x .task)) (sym e) h
@@ -248,50 +299,10 @@ module _ (m : Model) (ranked : Ranked m) (annotated : Annotated m) where
     tasks = λ j h. ⊎-elim (λ (e : j ≡ newJob t). cast-task m e tn) (o .tasks j) (mem-insertAt (placeOf m t q) q h);
   }
 
-  putAll-ordered : (ts : List ℕ) (q : List Job) → ((t : ℕ) → List·Memᴰ t ts → TaskOf m t) → overflowsAny m ts (order q) ≡ false
-      → Ordered m q → Ordered m (putAll m ts q)
-  putAll-ordered [] q named free o = o
-  putAll-ordered (t ∷ ts) q named free o =
-      putAll-ordered ts (put m t q) (λ u h. named u (List·Memᴰ·tail h))
-      (ap (overflowsAny m ts) (order-put m t q) ∙ overflowsAny-insertAt m ts (placeOf m t q) t (order q)
-      ∙ or-right (overflows m t (order q)) (overflowsAny m ts (t ∷ order q)) free)
-      (put-ordered t q (named t (List·Memᴰ·head refl)) (or-left (overflows m t (order q)) (overflowsAny m ts (t ∷ order q)) free) o)
-
-  start-ordered : Ordered m (start m .queue)
-  start-ordered =
-      putAll-ordered (releasedAtStart m) []
-      (λ t h. releases-named m annotated 1 t (subst (λ (ts : List ℕ). List·Memᴰ t ts) (releasedAtStart-is m) h))
-      (start-fits m) (record { stands = tt; tasks = λ j h. absurd (List·Memᴰ·not-nil h) })
-
-  edge-ordered : (s : State) (e : Edge) → overflowsAny m (released m e) (order (s .queue)) ≡ false → Ordered m (s .queue)
-      → Ordered m (entered m s e .queue)
-  edge-ordered s e free o =
-      putAll-ordered (released m e) (s .queue)
-      (λ t h. releases-named m annotated (e .to) t (subst (λ (ts : List ℕ). List·Memᴰ t ts) (released-is m e) h)) free o
-
-  moved-ordered : (s : State) (x : Option Edge) → Ordered m (s .queue) → Ordered m (after s (movedBy m s x) .queue)
-  moved-ordered s none o = o
-  moved-ordered s (some e) o = go (overflowsAny m (released m e) (order (s .queue))) refl
-    where
-      go : (b : Bool) → overflowsAny m (released m e) (order (s .queue)) ≡ b
-          → Ordered m (after s (cond b overflow (went (entered m s e))) .queue)
-      go true q = o
-      go false q = edge-ordered s e q o
-
-  tick-ordered : (s : State) → Ordered m (s .queue) → Ordered m (after s (act m s tick) .queue)
-  tick-ordered s o = go (late m (tickTo m s .queue))
-    where
-      go : (k : ℕ) → Ordered m (after s (judged (tickTo m s) k) .queue)
-      go zero = served-ordered m (finishes m (s .queue)) (s .queue) o
-      go (suc k) = served-ordered m (finishes m (s .queue)) (s .queue) o
-
-  act-ordered : (s : State) (ev : Event) → Ordered m (s .queue) → Ordered m (after s (act m s ev) .queue)
-  act-ordered s tick o = tick-ordered s o
-  act-ordered s (edge k) o = moved-ordered s (nth1 (m .edges) k) o
-
   run-ordered : {s : State} → Run m s → Ordered m (s .queue)
-  run-ordered begin = start-ordered
-  run-ordered (more {s = s} r ev a) = rw a (act-ordered s ev (run-ordered r))
+  run-ordered r =
+      run-keeps m (TaskOf m) (Ordered m) (releases-named m annotated) (record { stands = tt; tasks = λ j h. absurd (List·Memᴰ·not-nil h) })
+      put-ordered (served-ordered m) r
 
 -- in every state of every run the queue stands in order
 pub run-stands : (m : Model) → Ranked m → Annotated m → {s : State} → Run m s → Stands m (s .queue)

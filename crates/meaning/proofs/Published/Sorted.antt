@@ -3,7 +3,7 @@
 use mathlib.Core.Path.{_≡_, refl, sym, _∙_, ap, ap₂}
 use mathlib.Core.Logic.{_⊎_, inl, inr, ⊎-elim}
 use mathlib.Core.Bool.{Bool, true, false, cond}
-use mathlib.Core.List.{List, [], _∷_, map, List·Memᴰ, List·Memᴰ·head, List·Memᴰ·tail, List·Memᴰ·cases-cons, List·Memᴰ·not-nil}
+use mathlib.Core.List.{List, [], _∷_, _++_, map, List·Memᴰ, List·Memᴰ·head, List·Memᴰ·tail, List·Memᴰ·cases-cons, List·Memᴰ·not-nil}
 use Prim.Native.Nat.{ℕ, zero, suc}
 use Rattle.meaning.specs.Lists.{insertAt}
 use Rattle.meaning.specs.Machine.Place.{place}
@@ -31,19 +31,55 @@ module _ {A : Type 0} where
       first : (y : A) → List·Memᴰ y (map f l) → b (f x) y ≡ true
       first y h = let r = mem-map-inv f l h in ap (b (f x)) (r .2) ∙ keeps x (r .0) (s .0 (r .0) (r .1))
 
-module _ {A : Type 0} (b : A → A → Bool) (trans : (i j k : A) → b i j ≡ true → b j k ≡ true → b i k ≡ true) where
-  -- a new element in front of the first that it is ahead of, else last; of those that it isn't ahead of, each is ahead of it
-  pub insert-in-order : (x : A) (l : List A) → ((j : A) → List·Memᴰ j l → b x j ≡ false → b j x ≡ true) → InOrder b l
-      → InOrder b (insertAt (place (b x) l) x l)
-  insert-in-order x [] total s = (λ y h. absurd (List·Memᴰ·not-nil h), tt)
-  insert-in-order x (j ∷ l) total s = go (b x j) refl (insert-in-order x l (λ i h. total i (List·Memᴰ·tail h)) (s .1))
+  -- what a list is cut into where x is put in front of the first that a test picks
+  pub record Cut (c : A → Bool) (x : A) (l : List A) : Type 0 where
+    pub front : List A
+    pub back : List A
+    pub was : l ≡ front ++ back
+    pub is : insertAt (place c l) x l ≡ front ++ (x ∷ back)
+    pub none : (y : A) → List·Memᴰ y front → c y ≡ false
+    pub each : (y : A) → List·Memᴰ y back → c y ≡ true
+
+  -- in a list in order the test picks none ahead of x and each behind it, if it picks each that may stand behind one that it picks
+  pub cut-in-order : (b : A → A → Bool) (c : A → Bool) (x : A) (l : List A) → ((j y : A) → c j ≡ true → b j y ≡ true → c y ≡ true) → InOrder b l → Cut c x l
+  cut-in-order b c x [] up s = record { front = []; back = []; was = refl; is = refl; none = λ y h. absurd (List·Memᴰ·not-nil h); each = λ y h. absurd (List·Memᴰ·not-nil h) }
+  cut-in-order b c x (j ∷ l) up s = go (c j) refl (cut-in-order b c x l up (s .1))
     where
-      go : (c : Bool) → b x j ≡ c → InOrder b (insertAt (place (b x) l) x l)
-          → InOrder b (insertAt (cond c zero (suc (place (b x) l))) x (j ∷ l))
+      rest : Cut c x l → (e : c j ≡ false) → Cut c x (j ∷ l)
+      rest w e = record {
+        front = j ∷ w .front;
+        back = w .back;
+        was = ap (λ (k : List A). j ∷ k) (w .was);
+        is = rw e (ap (λ (k : List A). j ∷ k) (w .is));
+        none = λ y h. ⊎-elim (λ (d : y ≡ j). ap c d ∙ e) (w .none y) (List·Memᴰ·cases-cons h);
+        each = w .each;
+      }
+
+      go : (d : Bool) → c j ≡ d → Cut c x l → Cut c x (j ∷ l)
+      go true e w = record {
+        front = [];
+        back = j ∷ l;
+        was = refl;
+        is = rw e refl;
+        none = λ y h. absurd (List·Memᴰ·not-nil h);
+        each = λ y h. ⊎-elim (λ (d : y ≡ j). ap c d ∙ e) (λ (g : List·Memᴰ y l). up j y e (s .0 y g)) (List·Memᴰ·cases-cons h);
+      }
+      go false e w = rest w e
+
+module _ {A : Type 0} (b : A → A → Bool) (trans : (i j k : A) → b i j ≡ true → b j k ≡ true → b i k ≡ true) where
+  -- a new element in front of the first that a test picks, else last: it may stand in front of each that the test picks, and behind each other
+  pub insert-in-order : (c : A → Bool) (x : A) (l : List A) → ((j : A) → List·Memᴰ j l → c j ≡ true → b x j ≡ true)
+      → ((j : A) → List·Memᴰ j l → c j ≡ false → b j x ≡ true) → InOrder b l → InOrder b (insertAt (place c l) x l)
+  insert-in-order c x [] lets keeps s = (λ y h. absurd (List·Memᴰ·not-nil h), tt)
+  insert-in-order c x (j ∷ l) lets keeps s =
+      go (c j) refl (insert-in-order c x l (λ i h. lets i (List·Memᴰ·tail h)) (λ i h. keeps i (List·Memᴰ·tail h)) (s .1))
+    where
+      go : (d : Bool) → c j ≡ d → InOrder b (insertAt (place c l) x l) → InOrder b (insertAt (cond d zero (suc (place c l))) x (j ∷ l))
       go true e ih =
-          (λ y h. ⊎-elim (λ (d : y ≡ j). ap (b x) d ∙ e) (λ (g : List·Memᴰ y l). trans x j y e (s .0 y g)) (List·Memᴰ·cases-cons h), s)
+          let f = lets j (List·Memᴰ·head refl) e in
+          (λ y h. ⊎-elim (λ (d : y ≡ j). ap (b x) d ∙ f) (λ (g : List·Memᴰ y l). trans x j y f (s .0 y g)) (List·Memᴰ·cases-cons h), s)
       go false e ih =
-          (λ y h. ⊎-elim (λ (d : y ≡ x). ap (b j) d ∙ total j (List·Memᴰ·head refl) e) (s .0 y) (mem-insertAt (place (b x) l) l h), ih)
+          (λ y h. ⊎-elim (λ (d : y ≡ x). ap (b j) d ∙ keeps j (List·Memᴰ·head refl) e) (s .0 y) (mem-insertAt (place c l) l h), ih)
 
   module _ (irrefl : (j : A) → b j j ≡ false) where
     head-one : (x y : A) (l r : List A) → InOrder b (x ∷ l) → InOrder b (y ∷ r) → List·Memᴰ x (y ∷ r) → List·Memᴰ y (x ∷ l) → x ≡ y
@@ -70,3 +106,18 @@ module _ {A : Type 0} (b : A → A → Bool) (trans : (i j k : A) → b i j ≡ 
         let e : x ≡ y = head-one x y l r sl sr (f x (List·Memᴰ·head refl)) (g y (List·Memᴰ·head refl)) in
         let t : l ≡ r = in-order-one l r (sl .1) (sr .1) (behind-head x y l r e sl f) (behind-head y x r l (sym e) sr g) in
         ap₂ (λ (a : A) (k : List A). a ∷ k) e t
+
+-- a list is cut in one way into those that a test does not pick and those that it picks
+pub cut-one : {A : Type 0} (c : A → Bool) (f g f′ g′ : List A) → f ++ g ≡ f′ ++ g′
+    → ((y : A) → List·Memᴰ y f → c y ≡ false) → ((y : A) → List·Memᴰ y g → c y ≡ true)
+    → ((y : A) → List·Memᴰ y f′ → c y ≡ false) → ((y : A) → List·Memᴰ y g′ → c y ≡ true) → (f ≡ f′) × (g ≡ g′)
+cut-one c [] g [] g′ e n y n′ y′ = (refl, e)
+cut-one c [] g (x ∷ f′) g′ e n y n′ y′ =
+    absurd (never (y x (rw e (List·Memᴰ·head refl))) (n′ x (List·Memᴰ·head refl)))
+cut-one c (x ∷ f) g [] g′ e n y n′ y′ =
+    absurd (never (y′ x (rw (sym e) (List·Memᴰ·head refl))) (n x (List·Memᴰ·head refl)))
+cut-one {A} c (x ∷ f) g (x′ ∷ f′) g′ e n y n′ y′ =
+    let d : x ≡ x′ = cc in
+    let r : f ++ g ≡ f′ ++ g′ = cc in
+    let k = cut-one c f g f′ g′ r (λ z h. n z (List·Memᴰ·tail h)) y (λ z h. n′ z (List·Memᴰ·tail h)) y′ in
+    (ap₂ (λ (a : A) (l : List A). a ∷ l) d (k .0), k .1)

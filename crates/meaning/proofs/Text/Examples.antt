@@ -10,7 +10,7 @@ use Rattle.meaning.specs.ConsoleChecks.{modelA}
 use Rattle.meaning.specs.Text.Lines.{field, fields, fieldsText, fieldsThen, join, kept, keptText, outside}
 use Rattle.meaning.specs.Text.ModelReader.{cells, isMark, judge, look, lookFor, markOf, misfit, readModel, rule, used}
 use Rattle.meaning.specs.Text.ModelTable.{cell, collect, count, decode, edgeCell, edgeIn, edges, encode, guardIn, keyed, limitsIn, locationCell, locationIn, locations, lowered, resetsIn, size, tabulate, taskCell, taskIn, tasks}
-use Rattle.meaning.specs.Text.ModelText.{boundText, edgeText, form, limitText, locationText, modelText, policyNumber, raised, recordText, resetText, taskText, texts}
+use Rattle.meaning.specs.Text.ModelText.{boundText, edgeText, form, limitText, locationText, modelText, policyNumber, policyOf, raised, recordText, resetText, taskText, texts}
 use Rattle.meaning.specs.Text.Numerals.{dec, decF, digits, isDigit, negated, numText, number, positive, push}
 use Rattle.meaning.specs.Text.Records.{Answer, done, firstStop, isStop, read, refused, run, turn, wholeText}
 
@@ -24,7 +24,7 @@ model (done t) = some (decode t)
 model (refused k p) = none
 
 pub modelA-reads : model (readModel size textA) ≡ some modelA
-unfolding readModel wholeText firstStop isStop read run turn look lookFor judge rule markOf isMark form fields fieldsThen field join outside kept number positive negated digits isDigit push cells tasks locations edges count misfit used model decode collect taskIn locationIn limitsIn edgeIn guardIn resetsIn lowered
+unfolding readModel wholeText firstStop isStop read run turn look lookFor judge rule markOf isMark form fields fieldsThen field join outside kept number positive negated digits isDigit push cells tasks locations edges count misfit used model decode collect taskIn locationIn limitsIn edgeIn guardIn resetsIn lowered policyOf
 modelA-reads = refl
 
 pub modelA-text : modelText modelA ≡ textA
@@ -32,7 +32,7 @@ unfolding modelText recordText texts taskText locationText limitText edgeText bo
 modelA-text = refl
 
 pub modelA-table : some modelA ≡ some (decode (encode modelA))
-unfolding decode collect taskIn locationIn limitsIn edgeIn guardIn resetsIn lowered encode tabulate cell taskCell locationCell edgeCell keyed raised policyNumber
+unfolding decode collect taskIn locationIn limitsIn edgeIn guardIn resetsIn lowered encode tabulate cell taskCell locationCell edgeCell keyed raised policyNumber policyOf
 modelA-table = refl
 
 -- "`TK 2,5 4 0`: refusal 2"

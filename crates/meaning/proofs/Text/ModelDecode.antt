@@ -14,13 +14,13 @@ use Rattle.meaning.proofs.Text.ModelLaws.{guard-in, lawful, model-write
 use Rattle.meaning.proofs.Text.ModelShape.{clocks-there, guard-there, location-there, policy-is, policy-there, reset-there, reset-value}
 use Rattle.meaning.proofs.Text.BoundLaws.{over-of, raised-of, under-of}
 use Rattle.meaning.proofs.Text.RecordLaws.{Proper}
-use Rattle.meaning.specs.Model.{edf, fps}
+use Rattle.meaning.proofs.Text.Policies.{policy-number}
 use Rattle.meaning.specs.Numbers.{over, under}
 use Rattle.meaning.specs.Text.Choice.{pick}
 use Rattle.meaning.specs.Text.Lines.{fieldsText}
 use Rattle.meaning.specs.Text.ModelReader.{format, get, keysAt, line, lineOf, markAt, markInEdge, width, words}
 use Rattle.meaning.specs.Text.ModelTable.{collect, decode, edgeIn, guardIn, limitsIn, locationIn, lowered, resetsIn, size, taskIn, there}
-use Rattle.meaning.specs.Text.ModelText.{Mark, boundText, ck, ed, edgeText, en, form, gu, iv, limitText, lo, locationText, modelText, other, po, policyNumber, raised, recordText, resetText, rs, taskText, texts, tk}
+use Rattle.meaning.specs.Text.ModelText.{Mark, boundText, ck, ed, edgeText, en, form, gu, iv, limitText, lo, locationText, modelText, other, po, policyNumber, policyOf, raised, recordText, resetText, rs, taskText, texts, tk}
 use Rattle.meaning.specs.Text.Numerals.{number}
 use Rattle.meaning.specs.Text.Ranges.{timeMost}
 use Rattle.meaning.specs.Text.Records.{Answer, done, linesTo, read, write}
@@ -304,8 +304,8 @@ module _ (m : List ℕ) (p : Proper format lawful m) where
       slot-record m 0 0 po ((getD m 0 0 - 1) ∷ []) refl refl refl
       ∙ rw (lt-ltb 0 (getD m 0 0) (policy-there m p)) (ap (λ (x : ℕ). recordText po (x ∷ [])) number)
     where
-      number : getD m 0 0 - 1 ≡ policyNumber (pick (eqb (getD m 0 0) 2) fps edf)
-      number = let r = policy-is m p in by-eq (getD m 0 0) 2 (λ e. rw e) (λ e. rw (ne-eqb (getD m 0 0) 2 e) (omega arith))
+      number : getD m 0 0 - 1 ≡ policyNumber (policyOf (getD m 0 0 - 1))
+      number = let r = policy-is m p in sym (policy-number (getD m 0 0 - 1) (omega arith) (omega arith))
 
   clocks-line : slotLine m 1 ≡ recordText ck (decode m .clocks ∷ [])
   unfolding decode words keysAt width form markAt

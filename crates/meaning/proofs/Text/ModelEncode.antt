@@ -11,11 +11,12 @@ use lib.ListN.{getD, getElem?, length}
 use borrow.Author.Tests.{le-ltb, lt-ltb, ne-eqb}
 use Rattle.meaning.proofs.Text.Keyed.{collect-all, collect-same, each-map, each-nth, keyed-collect, ordered-map}
 use Rattle.meaning.proofs.Text.BoundLaws.{key-rising, lowered-of}
-use Rattle.meaning.specs.Model.{Bound, Edge, Limit, Location, Model, Policy, Task, edf, fps}
+use Rattle.meaning.specs.Model.{Bound, Edge, Limit, Location, Model, Task}
 use Rattle.meaning.specs.Numbers.{under}
 use Rattle.meaning.specs.Text.Choice.{pick}
 use Rattle.meaning.specs.Text.ModelTable.{cell, collect, decode, edgeCell, edgeIn, encode, guardIn, keyed, limitsIn, locationCell, locationIn, lowered, resetsIn, size, tabulate, taskCell, taskIn, there}
-use Rattle.meaning.specs.Text.ModelText.{policyNumber, raised}
+use Rattle.meaning.specs.Text.ModelText.{policyNumber, policyOf, raised}
+use Rattle.meaning.proofs.Text.Policies.{policy-back}
 use Rattle.meaning.specs.Text.Ranges.{timeMost}
 use Rattle.meaning.specs.Text.RightModel.{RightModel}
 
@@ -226,13 +227,11 @@ module _ (m : Model) (w : RightModel m) where
       (lt-ltb 0 (getD table (100 + 31 * e) 0) (omega arith), rw (b₁, b₂, guard-is e x h q, resets-are e x h q)))
       (λ e h q. let z : 100 + 31 * e + 0 ≡ 100 + 31 * e = omega arith in let c = rw z at (edge-none m e 0 h (omega arith) q) in le-ltb 0 (getD table (100 + 31 * e) 0) (omega arith))
 
-  policy-is : pick (eqb (getD table 0 0) 2) fps edf ≡ m .policy
-  unfolding policyNumber
-  policy-is = ap (λ (n : ℕ). pick (eqb n 2) fps edf) (policy-cell m) ∙ go (m .policy)
-    where
-      go : (p : Policy) → pick (eqb (suc (policyNumber p)) 2) fps edf ≡ p
-      go fps = refl
-      go edf = refl
+  policy-is : policyOf (getD table 0 0 - 1) ≡ m .policy
+  policy-is =
+      let c = policy-cell m in
+      let n : getD table 0 0 - 1 ≡ policyNumber (m .policy) = omega arith in
+      ap policyOf n ∙ policy-back (m .policy)
 
   -- the table of a model holds that model
   pub decode-encode : decode (encode m) ≡ m

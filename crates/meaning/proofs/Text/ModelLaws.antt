@@ -21,7 +21,7 @@ use Rattle.meaning.specs.Text.Lines.{Fields, Range, around, bad, between
 use Rattle.meaning.specs.Text.ModelReader.{cells, format, get, isMark, isNone, judge, keysAt, line, lineOf, look, lookFor, markAt, markInEdge, markOf, rule, width, words}
 use Rattle.meaning.specs.Text.ModelTable.{clocks, edges, locations, size, tasks, there}
 use Rattle.meaning.specs.Text.ModelText.{Mark, ck, ed, en, form, gu, iv, lo, other, po, rs, tk}
-use Rattle.meaning.specs.Text.Ranges.{timeMost}
+use Rattle.meaning.specs.Text.Ranges.{policiesMost, timeMost}
 use Rattle.meaning.specs.Text.Records.{done, end, read, rec, write}
 
 -- ---- marks
@@ -152,7 +152,7 @@ less a = omega arith
 
 pub fits : (q : Mark) (m v : List ℕ) → form q .closes ≡ false → rule q m .room ≡ true → clocks m ≤ 4 → Within (rule q m .ends) v → Fits q m v
 unfolding rule form cells width keysAt markInEdge
-fits po m v o r h w = by-one (Fits po m) (between 1 2) v w (λ a x y.
+fits po m v o r h w = by-one (Fits po m) (between 1 policiesMost) v w (λ a x y.
     record { mark = (unfold markAt in refl); told = rw (less a); many = refl; some = omega arith; early = omega arith; inside = omega arith })
 fits ck m v o r h w = by-one (Fits ck m) (between 0 4) v w (λ a x y.
     record { mark = (unfold markAt in refl); told = rw (less a); many = refl; some = omega arith; early = omega arith; inside = omega arith })

@@ -17,13 +17,13 @@ use Rattle.meaning.proofs.Text.ModelEncode.{bound-cell, clocks-cell, ed
 use Rattle.meaning.proofs.Text.ModelLaws.{Ok, guard-in, lawful, make-proper, reset-in, zeros}
 use Rattle.meaning.proofs.Text.ModelShape.{at-from, head-edge, head-location, head-task}
 use Rattle.meaning.proofs.Text.RecordLaws.{Proper, part}
-use Rattle.meaning.specs.Model.{Bound, Edge, Limit, Location, Model, Policy, Task, edf, fps}
+use Rattle.meaning.specs.Model.{Bound, Edge, Limit, Location, Model, Policy, Task, edf, fps, sjf}
 use Rattle.meaning.specs.Text.Choice.{pick}
 use Rattle.meaning.specs.Text.ModelReader.{cells, format, get, isNone, markAt, misfit, rule, used, width, words}
 use Rattle.meaning.specs.Text.ModelTable.{clocks, count, edges, encode, locations, size, tasks, there}
 use Rattle.meaning.specs.Text.ModelText.{ck, ed, form, gu, iv, lo, po, policyNumber, raised, rs, tk}
 use Rattle.meaning.specs.Text.Ranges.{timeMost}
-use Rattle.meaning.specs.Text.RightModel.{Ordered, Ranked, RightBound, RightEdge, RightLimit, RightLocation, RightModel, RightTask}
+use Rattle.meaning.specs.Text.RightModel.{Each, Ordered, Ranked, RightBound, RightEdge, RightLimit, RightLocation, RightModel, RightTask}
 
 -- ---- the first records of a table in which nothing stands alone
 
@@ -264,9 +264,10 @@ module _ (m : Model) (w : RightModel m) where
         few = few 0 (omega arith);
       }
     where
-      go : (p : Policy) → (1 ≤ policyNumber p) × (policyNumber p ≤ 2) × Unit {0}
+      go : (p : Policy) → (1 ≤ policyNumber p) × (policyNumber p ≤ 3) × Unit {0}
       go fps = omega arith
       go edf = omega arith
+      go sjf = omega arith
 
   right-clocks : Right-at 1
   unfolding rule cells form words width markAt
@@ -316,13 +317,15 @@ module _ (m : Model) (w : RightModel m) where
       let c = head-below table long closed (2 + 3 * t) 0 (omega arith) (omega arith) (omega arith) ∙ policy-cell m in
       rw c (go (m .policy) (w .ranks))
     where
+      none : Each (λ (y : Task). y .prio ≡ 0) (m .tasks) → ltb 0 (x .prio) ≡ false
+      none r = let k = each-nth (λ (y : Task). y .prio ≡ 0) (m .tasks) t x r e in le-ltb 0 (x .prio) (omega arith)
+
       go : (p : Policy) → Ranked p (m .tasks) → pick (eqb (suc (policyNumber p)) 2) (eqb (x .prio) 0 || used (so-far (2 + 3 * t)) (x .prio) 6) (ltb 0 (x .prio)) ≡ false
       go fps r =
           let k = each-nth (λ (y : Task). 1 ≤ y .prio) (m .tasks) t x (r .0) e in
           rw (ne-eqb (x .prio) 0 (omega arith)) (not-used t x h e (r .1) 6 (omega arith))
-      go edf r =
-          let k = each-nth (λ (y : Task). y .prio ≡ 0) (m .tasks) t x r e in
-          le-ltb 0 (x .prio) (omega arith)
+      go edf r = none r
+      go sjf r = none r
 
   right-task : (t : ℕ) (x : Task) → t < 6 → getElem? (m .tasks) t ≡ some x → Right-at (2 + 3 * t)
   unfolding rule cells form words width markAt

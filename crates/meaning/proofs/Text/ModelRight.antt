@@ -14,15 +14,16 @@ use Rattle.meaning.proofs.Text.Collects.{collect-length, each-collect, 
 use Rattle.meaning.proofs.Text.ModelCells.{at-limit, at-location, at-task, count-le, get-words, in-edge}
 use Rattle.meaning.proofs.Text.ModelDecode.{lowered-over, lowered-under}
 use Rattle.meaning.proofs.Text.ModelLaws.{by-one, by-three, by-two, guard-in, lawful, reset-in}
-use Rattle.meaning.proofs.Text.ModelShape.{at-from, below, count-same, count-some, get-cell, head-location, head-task, location-first, record-at, task-first, upto}
+use Rattle.meaning.proofs.Text.ModelShape.{at-from, below, count-same, count-some, get-cell, head-location, head-task, location-first, policy-is, record-at, task-first, upto}
 use Rattle.meaning.proofs.Text.RecordLaws.{Proper}
 use Rattle.meaning.proofs.Text.RecordParts.{part-below}
-use Rattle.meaning.specs.Model.{Bound, Limit, Task, edf, fps}
+use Rattle.meaning.specs.Model.{Bound, Limit, Policy, Task, edf, fps, sjf}
 use Rattle.meaning.specs.Text.Choice.{pick}
 use Rattle.meaning.specs.Text.Lines.{around, between}
 use Rattle.meaning.specs.Text.ModelReader.{cells, format, get, markAt, misfit, rule, used, width, words}
 use Rattle.meaning.specs.Text.ModelTable.{clocks, collect, decode, edgeIn, edges, guardIn, limitsIn, locationIn, locations, lowered, resetsIn, size, taskIn, tasks, there}
-use Rattle.meaning.specs.Text.ModelText.{ed, form, gu, iv, lo, rs, tk}
+use Rattle.meaning.specs.Text.ModelText.{ed, form, gu, iv, lo, policyNumber, policyOf, rs, tk}
+use Rattle.meaning.proofs.Text.Policies.{policy-number}
 use Rattle.meaning.specs.Text.Ranges.{timeMost}
 use Rattle.meaning.specs.Text.RightModel.{Each, Ranked, RightBound, RightEdge, RightLimit, RightLocation, RightModel, RightTask, before}
 
@@ -286,19 +287,23 @@ module _ (m : List ℕ) (p : Proper format lawful m) where
       each-collect (RightEdge (clocks m) (locations m)) 32 (λ e. there m (100 + 31 * e)) (λ e. edgeIn m (100 + 31 * e)) (λ e h t. right-edge e h (ltb-true 0 (getD m (100 + 31 * e) 0) t))
 
   ranked : Ranked (decode m .policy) (decode m .tasks)
-  unfolding decode
-  ranked = go (eqb (getD m 0 0) 2) refl
+  unfolding decode policyNumber
+  ranked = let r = policy-is m p in go (policyOf (getD m 0 0 - 1)) (sym (policy-number (getD m 0 0 - 1) (omega arith) (omega arith)))
     where
       there-is : (t : ℕ) → there m (2 + 3 * t) ≡ true → 0 < getD m (2 + 3 * t) 0
       there-is t e = ltb-true 0 (getD m (2 + 3 * t) 0) e
 
-      go : (b : Bool) → eqb (getD m 0 0) 2 ≡ b → Ranked (pick b fps edf) (collect 6 (λ t. there m (2 + 3 * t)) (λ t. taskIn m (2 + 3 * t)))
-      go true e =
-          let z = eqb-true (getD m 0 0) 2 e in (
+      zeros : (getD m 0 0 ≡ 2 → ⊥) → Each (λ (x : Task). x .prio ≡ 0) (collect 6 (λ t. there m (2 + 3 * t)) (λ t. taskIn m (2 + 3 * t)))
+      zeros n = each-collect (λ (x : Task). x .prio ≡ 0) 6 (λ t. there m (2 + 3 * t)) (λ t. taskIn m (2 + 3 * t)) (λ t h k. rank t h (there-is t k) .none n)
+
+      go : (q : Policy) → getD m 0 0 - 1 ≡ policyNumber q → Ranked q (collect 6 (λ t. there m (2 + 3 * t)) (λ t. taskIn m (2 + 3 * t)))
+      go fps e =
+          let z : getD m 0 0 ≡ 2 = omega arith in (
             each-collect (λ (x : Task). 1 ≤ x .prio) 6 (λ t. there m (2 + 3 * t)) (λ t. taskIn m (2 + 3 * t)) (λ t h k. rank t h (there-is t k) .some z),
             ordered-collect (λ (x y : Task). x .prio ≡ y .prio → ⊥) 6 (λ t. there m (2 + 3 * t)) (λ t. taskIn m (2 + 3 * t)) (λ x y l h a b q. rank y h (there-is y b) .new z x l (there-is x a) q),
           )
-      go false e = each-collect (λ (x : Task). x .prio ≡ 0) 6 (λ t. there m (2 + 3 * t)) (λ t. taskIn m (2 + 3 * t)) (λ t h k. rank t h (there-is t k) .none (eqb-false (getD m 0 0) 2 e))
+      go edf e = zeros (omega arith)
+      go sjf e = zeros (omega arith)
 
   clocks-are : decode m .clocks ≡ clocks m
   unfolding decode

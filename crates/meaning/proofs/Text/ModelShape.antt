@@ -201,10 +201,10 @@ module _ (m : List ℕ) (p : Proper format lawful m) where
       let d = ltb-true 0 (getD (upto 1) 0 0) (s .due) in
       rw (below 1 0 (omega arith) (omega arith) (omega arith)) at d
 
-  pub policy-is : (2 ≤ getD m 0 0) × (getD m 0 0 ≤ 3)
+  pub policy-is : (2 ≤ getD m 0 0) × (getD m 0 0 ≤ 4)
   unfolding rule width form markAt cells
   policy-is =
       let s = record-at 0 po (omega arith) refl (omega arith) policy-there in
-      by-one (λ (v : List ℕ). cells po v ≡ get m 0 → (2 ≤ getD m 0 0) × (getD m 0 0 ≤ 3)) (between 1 2) (s .vals) (s .within)
+      by-one (λ (v : List ℕ). cells po v ≡ get m 0 → (2 ≤ getD m 0 0) × (getD m 0 0 ≤ 4)) (between 1 3) (s .vals) (s .within)
       (λ a x y e. let c = get-cell m 0 (omega arith) in let d = ap (λ (l : List ℕ). getD l 0 0) e in omega arith)
       (s .held)

@@ -4,14 +4,16 @@ use mathlib.Core.Bool.{Bool, cond, _&&_, _||_}
 use mathlib.Core.List.{List, [], _∷_}
 use Prim.Native.Nat.{ℕ, zero, suc, _+_}
 use lib.Dec.{ltb, eqb}
-use Rattle.meaning.specs.Model.{Policy, fps, edf, Task, Model, taskAt}
+use Rattle.meaning.specs.Model.{Policy, fps, edf, sjf, Task, Model, taskAt}
 use Rattle.meaning.specs.Machine.State.{Job, order}
 
 -- Does a new job of task number n, whose data are t, beat the queued job j, whose task's data are u?
 -- "FPS: larger priority beats. EDF: fewer ticks left to the deadline (D minus age) beats; at equality the larger task number beats."
+-- M-100: "A new job beats a queued one when its computing time is less than what the queued job still owes, which is C minus done; at equality the queued job stays ahead."
 unfoldable pub beatsBy : Policy → ℕ → Task → Task → Job → Bool
 beatsBy fps n t u j = ltb (u .prio) (t .prio)
 beatsBy edf n t u j = ltb (t .D + j .age) (u .D) || (eqb (t .D + j .age) (u .D) && ltb (j .task) n)
+beatsBy sjf n t u j = ltb (t .C + j .done) (u .C)
 
 -- the same by the model's policy
 unfoldable pub beats : Model → ℕ → Job → Bool

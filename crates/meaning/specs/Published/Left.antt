@@ -5,7 +5,7 @@ use mathlib.Core.List.{List, [], _∷_, map}
 use Prim.Native.Nat.{ℕ, suc, _-_}
 use lib.Dec.{leb, ltb, eqb}
 use Rattle.meaning.specs.Lists.{insertAt, first}
-use Rattle.meaning.specs.Model.{Policy, fps, edf, Task, Edge, Model, taskAt, target, released}
+use Rattle.meaning.specs.Model.{Policy, fps, edf, sjf, Task, Edge, Model, taskAt, target, released}
 use Rattle.meaning.specs.Machine.State.{Job, State}
 use Rattle.meaning.specs.Machine.Place.{place}
 use Rattle.meaning.specs.Machine.Edge.{resetAll}
@@ -44,11 +44,13 @@ abbrev pub delayOne : Triple → Triple
 delayOne x = record { location = x .location; clocks = map suc (x .clocks); queue = map elapsed (worksOne (x .queue)) }
 
 -- 000, Definition 6: "P_i > P_j ⟺ d_i < d_j ∨ (d_i = d_j ∧ i > j)"; FPS: the larger priority
+-- 004, section 4, "SJF scheduler": "if W_i − x_i < W_i′ − x_i′, then the running instance of task t_i has a shorter job than the running of task t_i′ and should be executed first"
 unfoldable pub higherBy : Policy → Task → Task → Ready → Ready → Bool
 higherBy fps t u i j = ltb (u .prio) (t .prio)
 higherBy edf t u i j = ltb (i .time) (j .time) || (eqb (i .time) (j .time) && ltb (j .task) (i .task))
+higherBy sjf t u i j = ltb (i .work) (j .work)
 
--- 000, Definition 6, by the model's policy
+-- the same by the model's policy
 abbrev pub higher : Model → Ready → Ready → Bool
 higher m i j = higherBy (m .policy) (taskAt m (i .task)) (taskAt m (j .task)) i j
 

@@ -1,19 +1,21 @@
--- 000's order of the ready queue: who is ahead of whom, and the sorted queue.
+-- 000's order of the ready queue, and 004's for the shortest job: who is ahead of whom, and the sorted queue.
 -- Assumes nothing.
 use mathlib.Core.Path.{_≡_}
-use mathlib.Core.Bool.{Bool, true, _&&_, _||_}
+use mathlib.Core.Bool.{Bool, true, not, _&&_, _||_}
 use mathlib.Core.List.{List, [], _∷_, List·Memᴰ}
 use Prim.Native.Nat.{ℕ, _+_, _≤_}
 use lib.Dec.{ltb, eqb}
 use lib.ListN.{length}
-use Rattle.meaning.specs.Model.{Policy, fps, edf, Task, Location, Model, taskAt}
+use Rattle.meaning.specs.Model.{Policy, fps, edf, sjf, Task, Location, Model, taskAt}
 use Rattle.meaning.specs.Machine.State.{Job}
 
 -- 000, Definition 6: "P_i > P_j ⟺ d_i < d_j ∨ (d_i = d_j ∧ i > j)", the time left d being D minus age; FPS: the larger priority
+-- 004, "SJF scheduler": "W_i − x_i < W_i′ − x_i′", with C for W and done for x
 unfoldable pub aheadBy : Policy → Task → Task → Job → Job → Bool
 aheadBy fps t u i j = ltb (u .prio) (t .prio)
 aheadBy edf t u i j =
     ltb (t .D + j .age) (u .D + i .age) || (eqb (t .D + j .age) (u .D + i .age) && ltb (j .task) (i .task))
+aheadBy sjf t u i j = ltb (t .C + j .done) (u .C + i .done)
 
 -- 000, Definition 6: "the priority P_i of task t_i is greater than the priority P_j of task t_j", by the model's policy
 abbrev pub ahead : Model → Job → Job → Bool
@@ -28,6 +30,14 @@ module _ {A : Type 0} where
 -- 000: "sorted according to the scheduling policy": the queue stands in order
 abbrev pub Stands : Model → List Job → Type 0
 Stands m q = InOrder (ahead m) q
+
+-- the job i may stay in front of j: j isn't ahead of it
+abbrev pub stays : Model → Job → Job → Bool
+stays m i j = not (ahead m j i)
+
+-- 004, "should be executed first": no job is ahead of one in front of it, so none is ahead of the head, which runs; equals may stand either way
+abbrev pub Settled : Model → List Job → Type 0
+Settled m q = InOrder (stays m) q
 
 -- 000: "Sch(q) is a function that returns the ready queue sorted according to the scheduling policy": r is Sch(q)
 pub record IsSch (m : Model) (q r : List Job) : Type 0 where
@@ -48,10 +58,12 @@ TasksOf m q = (j : Job) → List·Memᴰ j q → TaskOf m (j .task)
 abbrev pub Annotated : Model → Type 0
 Annotated m = (l : Location) → List·Memᴰ l (m .locations) → l .task ≤ length (m .tasks)
 
--- 000: "sorted according to the scheduling policy": the policy tells any two tasks apart; FPS: no two of the model have one priority
+-- 000: "sorted according to the scheduling policy": the policy tells any two tasks apart; FPS: no two of the model have one priority; SJF does not, since
+-- two jobs may owe the same
 abbrev pub RankedBy : Policy → Model → Type 0
 RankedBy fps m = (t u : ℕ) → TaskOf m t → TaskOf m u → taskAt m t .prio ≡ taskAt m u .prio → t ≡ u
 RankedBy edf m = Unit
+RankedBy sjf m = ⊥
 
 -- 000: "a scheduling strategy Sch": the same of the model's own policy
 abbrev pub Ranked : Model → Type 0

@@ -9,7 +9,7 @@ use lib.Dec.{ltb, leb, eqb}
 use lib.ListN.{length, getD, drop, replicate}
 use lib.Seq.{sets}
 use Rattle.meaning.specs.Text.Choice.{pick}
-use Rattle.meaning.specs.Text.Ranges.{clocksMost, timeMost, prioMost, tasksMost, locationsMost, edgesMost}
+use Rattle.meaning.specs.Text.Ranges.{policiesMost, clocksMost, timeMost, prioMost, tasksMost, locationsMost, edgesMost}
 use Rattle.meaning.specs.Text.Refusals.{markNotHere, tooMany, brokenLine, outOfRange, workOverDeadline, wrongPriority, notRising, wrongRoom}
 use Rattle.meaning.specs.Text.Lines.{Range, between, around, Fields, ok, bad, out, fields, fieldsText}
 use Rattle.meaning.specs.Text.Records.{Seen, rec, end, fault, Answer, done, refused, Format, read, wholeText}
@@ -35,7 +35,7 @@ unfoldable pub used : List ℕ → ℕ → ℕ → Bool
 used t p zero = false
 used t p (suc n) = used t p n || eqb (getD t (taskSlot n + 2) 0) (p + 1)
 
--- "FPS: priority 0 or used before. EDF: not 0"
+-- "FPS: priority 0 or used before. EDF: not 0"; M-100, of PO 3: "priority must then be 0, else 8"
 unfoldable pub misfit : List ℕ → ℕ → Bool
 misfit t p = pick (eqb (getD t policySlot 0) 2) (eqb p 0 || used t p tasksMost) (ltb 0 p)
 
@@ -58,8 +58,8 @@ edge t = edgeSlot (edges t - 1)
 
 -- the table of "The two texts", mark by mark, after the table t was read
 unfoldable pub rule : Mark → List ℕ → Rule
--- "1 FPS, 2 EDF"; before all others
-rule po t = record { due = true; latest = policySlot; room = true; ends = between 1 2 ∷ []; wrong = λ v. 0; slot = λ v. policySlot }
+-- "1 FPS, 2 EDF"; M-100: "PO may be 3"; before all others
+rule po t = record { due = true; latest = policySlot; room = true; ends = between 1 policiesMost ∷ []; wrong = λ v. 0; slot = λ v. policySlot }
 -- "clocks, 0 to 4"; after PO, once
 rule ck t = record { due = there t policySlot; latest = clocksSlot; room = true; ends = between 0 clocksMost ∷ []; wrong = λ v. 0; slot = λ v. clocksSlot }
 -- "C and D, 1 to 10,000; priority 0 to 6"; after CK, not after a location

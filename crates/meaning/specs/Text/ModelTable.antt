@@ -18,11 +18,11 @@ use mathlib.Core.Bool.{Bool}
 use lib.Dec.{ltb, eqb}
 use lib.IntN.{ℤ}
 use lib.ListN.{getD, getElem?}
-use Rattle.meaning.specs.Model.{fps, edf, Task, Limit, Bound, Location, Edge, Model}
+use Rattle.meaning.specs.Model.{Task, Limit, Bound, Location, Edge, Model}
 use Rattle.meaning.specs.Text.Choice.{pick}
 use Rattle.meaning.specs.Text.Ranges.{timeMost, tasksMost, locationsMost, edgesMost}
 use Rattle.meaning.specs.Text.Lines.{loweredBy}
-use Rattle.meaning.specs.Text.ModelText.{policyNumber, raised}
+use Rattle.meaning.specs.Text.ModelText.{policyNumber, policyOf, raised}
 
 -- "its full size"
 abbrev pub size : ℕ
@@ -111,7 +111,7 @@ module _ (t : List ℕ) where
   -- what the table stands for
   unfoldable pub decode : Model
   decode = record {
-    policy = pick (eqb (getD t policySlot 0) 2) fps edf;
+    policy = policyOf (getD t policySlot 0 - 1);
     clocks = clocks t;
     tasks = collect tasksMost (λ x. there t (taskSlot x)) (λ x. taskIn (taskSlot x));
     locations = collect locationsMost (λ x. there t (locationSlot x)) (λ x. locationIn (locationSlot x));

@@ -3,8 +3,10 @@
 use Prim.Native.Nat.{ℕ}
 use mathlib.Core.List.{List, [], _∷_, _++_}
 use mathlib.Core.Bool.{Bool, true, false}
+use lib.Dec.{eqb}
 use lib.IntN.{ℤ}
-use Rattle.meaning.specs.Model.{Policy, fps, edf, Task, Limit, Bound, Location, Edge, Model}
+use Rattle.meaning.specs.Model.{Policy, fps, edf, sjf, Task, Limit, Bound, Location, Edge, Model}
+use Rattle.meaning.specs.Text.Choice.{pick}
 use Rattle.meaning.specs.Text.Ranges.{timeMost}
 use Rattle.meaning.specs.Text.Lines.{fieldsText, raisedBy}
 
@@ -43,10 +45,15 @@ unfoldable pub texts : {A : Type 0} → (A → List ℕ) → List A → List ℕ
 texts t [] = []
 texts t (x ∷ xs) = t x ++ texts t xs
 
--- "1 FPS, 2 EDF"
+-- "1 FPS, 2 EDF"; M-100: "PO may be 3"
 unfoldable pub policyNumber : Policy → ℕ
 policyNumber fps = 1
 policyNumber edf = 2
+policyNumber sjf = 3
+
+-- the policy with this number
+unfoldable pub policyOf : ℕ → Policy
+policyOf n = pick (eqb n 1) fps (pick (eqb n 2) edf sjf)
 
 -- "c from −10,000 to 10,000", as it is kept: with 10,000 added
 unfoldable pub raised : ℤ → ℕ

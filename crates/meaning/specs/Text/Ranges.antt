@@ -6,6 +6,10 @@ use Prim.Native.Nat.{ℕ}
 abbrev pub textMost : ℕ
 textMost = 65535
 
+-- PO: "1 FPS, 2 EDF"; M-100: "PO may be 3"
+abbrev pub policiesMost : ℕ
+policiesMost = 3
+
 -- CK: "clocks, 0 to 4"
 abbrev pub clocksMost : ℕ
 clocksMost = 4

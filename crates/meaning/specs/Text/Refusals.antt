@@ -30,7 +30,7 @@ outOfRange = 5
 abbrev pub workOverDeadline : ℕ
 workOverDeadline = 7
 
--- "FPS: priority 0 or used before. EDF: not 0"
+-- "FPS: priority 0 or used before. EDF: not 0"; M-100: "priority must then be 0, else 8"
 abbrev pub wrongPriority : ℕ
 wrongPriority = 8
 

@@ -7,7 +7,7 @@ use mathlib.Core.List.{List, [], _∷_}
 use lib.Dec.{ltb, eqb}
 use lib.ListN.{length}
 use Rattle.meaning.specs.Numbers.{over, under}
-use Rattle.meaning.specs.Model.{Policy, fps, edf, Task, Limit, Bound, Location, Edge, Model}
+use Rattle.meaning.specs.Model.{Policy, fps, edf, sjf, Task, Limit, Bound, Location, Edge, Model}
 use Rattle.meaning.specs.Text.Ranges.{clocksMost, timeMost, prioMost, tasksMost, locationsMost, edgesMost}
 
 -- each of the list is so
@@ -62,10 +62,11 @@ pub record RightEdge (clocks locations : ℕ) (x : Edge) : Type 0 where
   pub resets : Each (λ (k : ℕ). (1 ≤ k) × (k ≤ clocks)) (x .resets)
   pub resets-rising : Ordered (λ (a b : ℕ). a < b) (x .resets)
 
--- refusal 8 is "FPS: priority 0 or used before. EDF: not 0"
+-- refusal 8 is "FPS: priority 0 or used before. EDF: not 0"; M-100: "priority must then be 0, else 8"
 abbrev pub Ranked : Policy → List Task → Type 0
 Ranked fps xs = Each (λ (x : Task). 1 ≤ x .prio) xs × Ordered (λ (x y : Task). x .prio ≡ y .prio → ⊥) xs
 Ranked edf xs = Each (λ (x : Task). x .prio ≡ 0) xs
+Ranked sjf xs = Each (λ (x : Task). x .prio ≡ 0) xs
 
 -- "clocks, 0 to 4"; TK "1 to 6", LO "1 to 16", ED "0 to 32"
 pub record RightModel (x : Model) : Type 0 where

@@ -13,12 +13,12 @@ use Rattle.meaning.specs.Text.ModelTable.{size, decode}
 use Rattle.meaning.specs.Text.ModelReader.{readModel, Given}
 use Rattle.meaning.specs.Text.ProposalTable as proposal
 use Rattle.meaning.specs.Text.ProposalReader.{readProposal}
-use Rattle.model.specs.declared.reading.Read as model-read
-use Rattle.model.specs.declared.reading.Read.the-variants as model-reads
-use Rattle.model.specs.Meant as model
-use Rattle.proposal.specs.declared.reading.Read.{Read}
-use Rattle.proposal.specs.declared.reading.Read.the-variants.{Done, Refused}
-use Rattle.proposal.specs.Meant.{meant, ReadOver}
+use Rattle.model_text.specs.declared.reading.Read as model-read
+use Rattle.model_text.specs.declared.reading.Read.the-variants as model-reads
+use Rattle.model_text.specs.Meant as model
+use Rattle.zone_text.specs.declared.reading.Read.{Read}
+use Rattle.zone_text.specs.declared.reading.Read.the-variants.{Done, Refused}
+use Rattle.zone_text.specs.Meant.{meant, ReadOver}
 use Rattle.console.specs.Part.{partAt, proposalPart, partBy, partOf, Shows, ShowsIn}
 use Rattle.console.proofs.ReadLaws.{proposal-answer, model-answer}
 use Rattle.console.proofs.PlaceLaws.{model-refusal, proposal-refusal}

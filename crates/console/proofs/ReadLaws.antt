@@ -9,11 +9,11 @@ use Rattle.meaning.specs.Text.ModelTable.{size, decode}
 use Rattle.meaning.specs.Text.ModelReader.{readModel, Given}
 use Rattle.meaning.specs.Text.ProposalTable as proposal
 use Rattle.meaning.specs.Text.ProposalReader.{readProposal}
-use Rattle.model.specs.declared.reading.Read as model-read
-use Rattle.model.specs.declared.reading.Read.the-variants as model-reads
-use Rattle.model.specs.Meant as model
-use Rattle.proposal.specs.declared.reading.Read.{Read}
-use Rattle.proposal.specs.Meant.{meant, ReadOver}
+use Rattle.model_text.specs.declared.reading.Read as model-read
+use Rattle.model_text.specs.declared.reading.Read.the-variants as model-reads
+use Rattle.model_text.specs.Meant as model
+use Rattle.zone_text.specs.declared.reading.Read.{Read}
+use Rattle.zone_text.specs.Meant.{meant, ReadOver}
 
 pub proposal-answer : (b s t t′ : List ℕ) (r : Read) → length t ≡ proposal.size → Given b → ReadOver b s t r t′ → (x : Read) → r ≡ x
     → readProposal true (decode b) proposal.size s ≡ meant x t′

@@ -10,12 +10,12 @@ use Rattle.meaning.specs.Text.ModelTable.{size, decode, clocks}
 use Rattle.meaning.specs.Text.ModelReader.{readModel, Given}
 use Rattle.meaning.specs.Text.ProposalTable as proposal
 use Rattle.meaning.specs.Text.ProposalReader.{readProposal}
-use Rattle.model.specs.declared.reading.Read as model-read
-use Rattle.model.specs.declared.reading.Read.the-variants as model-reads
-use Rattle.model.specs.Meant as model
-use Rattle.proposal.specs.declared.reading.Read.{Read}
-use Rattle.proposal.specs.declared.reading.Read.the-variants.{Done, Refused}
-use Rattle.proposal.specs.Meant.{meant, ReadOver}
+use Rattle.model_text.specs.declared.reading.Read as model-read
+use Rattle.model_text.specs.declared.reading.Read.the-variants as model-reads
+use Rattle.model_text.specs.Meant as model
+use Rattle.zone_text.specs.declared.reading.Read.{Read}
+use Rattle.zone_text.specs.declared.reading.Read.the-variants.{Done, Refused}
+use Rattle.zone_text.specs.Meant.{meant, ReadOver}
 use Rattle.verdict.specs.Answers.{Usable, Answered, unusable, right}
 use Rattle.verdict.specs.declared.answer.Answer.{Answer}
 use Rattle.console.specs.Texts.{refusedText, TellsAnswer, TellsProposal, TellsModel, Tells}

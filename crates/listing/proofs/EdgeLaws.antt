@@ -18,10 +18,10 @@ use Rattle.meaning.specs.Zones.Steps.{byEdge, choices, places, leavingBy}
 use Rattle.meaning.proofs.Hooks.{behind-none}
 use Rattle.meaning.proofs.Zones.Counting as C
 use Rattle.meaning.proofs.Zones.Counting.{taskBy}
-use Rattle.matrix.specs.Moves.{stepOf, Numbered}
-use Rattle.matrix.specs.declared.moves.Move.{Move}
-use Rattle.matrix.specs.declared.moves.Move.the-variants as Moved
-use Rattle.matrix.proofs.MoveLaws.{released-one, over-one, places-none, places-over, places-new}
+use Rattle.step_bounds.specs.Moves.{stepOf, Numbered}
+use Rattle.step_bounds.specs.declared.moves.Move.{Move}
+use Rattle.step_bounds.specs.declared.moves.Move.the-variants as Moved
+use Rattle.step_bounds.proofs.MoveLaws.{released-one, over-one, places-none, places-over, places-new}
 use Rattle.steps.specs.declared.claims.Share.{Share}
 use Rattle.steps.specs.Counted.{ShareIs}
 use Rattle.listing.specs.StepAt.{stepBy}

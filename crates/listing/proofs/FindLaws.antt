@@ -9,18 +9,17 @@ use native.Mathlib.Numerals.{add-one}
 use lib.ListN.{length, getElem?, drop, drop-of-length-le}
 use Rattle.meaning.specs.Lists.{nth1}
 use Rattle.meaning.specs.Model.{Edge, Model}
-use Rattle.meaning.specs.Text.ModelReader.{Given}
 use Rattle.meaning.specs.Text.ModelTable.{decode, edges}
 use Rattle.meaning.specs.Zones.Zone.{Zone}
 use Rattle.meaning.specs.Zones.Steps.{leavingBy, leaving, steps}
-use Rattle.meaning.proofs.Text.ModelTheorems.{given-right}
 use Rattle.meaning.proofs.Zones.Counting.{placesBy, placesFrom, placesBy-is, leavingBy-count, steps-count, steps-most}
-use Rattle.parts.specs.Parts.{edgeOf, toIn, releasedIn}
-use Rattle.parts.proofs.PartLaws.{edge-is, released-is}
+use Rattle.model_table.specs.Right.{RightTable}
+use Rattle.model_table.specs.Parts.{edgeOf, toIn, releasedIn}
+use Rattle.model_table.proofs.PartLaws.{edge-is, released-is}
 use Rattle.steps.specs.declared.claims.Share.{Share}
 use Rattle.steps.specs.Counted.{ShareIs}
-use Rattle.matrix.specs.declared.moves.Move.{Move}
-use Rattle.matrix.specs.declared.moves.Move.the-variants.{GoOn, Finish}
+use Rattle.step_bounds.specs.declared.moves.Move.{Move}
+use Rattle.step_bounds.specs.declared.moves.Move.the-variants.{GoOn, Finish}
 use Rattle.listing.specs.StepAt.{StepAt, stepBy}
 use Rattle.listing.proofs.EdgeLaws.{EdgeStep, edge-step}
 
@@ -96,7 +95,7 @@ module _ (m : Model) (z : Zone) (x : ℕ) where
       omega arith
 
 -- the same over a model's table
-module _ (t : List ℕ) (g : Given t) (z : Zone) (x rest k : ℕ) (w : Finding (decode t) z x rest k) (l : k < edges t) (r : Share) (s : ShareIs (decode t) z (edgeOf t (k + 1)) r) where
+module _ (t : List ℕ) (g : RightTable t) (z : Zone) (x rest k : ℕ) (w : Finding (decode t) z x rest k) (l : k < edges t) (r : Share) (s : ShareIs (decode t) z (edgeOf t (k + 1)) r) where
   edge-here : getElem? (decode t .edges) k ≡ some (edgeOf t (k + 1))
   edge-here = subst (λ (n : ℕ). nth1 (decode t .edges) n ≡ some (edgeOf t (k + 1))) (add-one k) (edge-is t g (k + 1) (omega arith) (omega arith))
 
@@ -110,5 +109,5 @@ module _ (t : List ℕ) (g : Given t) (z : Zone) (x rest k : ℕ) (w : Finding (
   find-on h = subst (λ (n : ℕ). Finding (decode t) z x (rest - r .places) n) (sym (add-one k)) (finding-next (decode t) z x rest k w (edgeOf t (k + 1)) edge-here r s h)
 
 -- a place of the list is not far
-pub place-most : (t : List ℕ) → Given t → (z : Zone) (x : ℕ) → length (z .order) ≤ 6 → x ≤ length (steps (decode t) z) → x ≤ 226
-place-most t g z x h l = omega (arith, steps-most (decode t) z h (given-right t g .edges-high))
+pub place-most : (t : List ℕ) → RightTable t → (z : Zone) (x : ℕ) → length (z .order) ≤ 6 → x ≤ length (steps (decode t) z) → x ≤ 226
+place-most t g z x h l = omega (arith, steps-most (decode t) z h (g .right .edges-high))

@@ -10,9 +10,9 @@ use Rattle.meaning.specs.Model.{Model}
 use Rattle.meaning.specs.Zones.Zone.{Zone}
 use Rattle.meaning.specs.Zones.Steps.{steps}
 use Rattle.meaning.proofs.Lists.{at-mem}
-use Rattle.matrix.specs.Moves.{stepOf, Numbered, Listed}
-use Rattle.matrix.specs.declared.moves.Move.{Move}
-use Rattle.matrix.specs.declared.moves.Move.the-variants.{GoOn, Finish, Edge, EdgeAt}
+use Rattle.step_bounds.specs.Moves.{stepOf, Numbered, Listed}
+use Rattle.step_bounds.specs.declared.moves.Move.{Move}
+use Rattle.step_bounds.specs.declared.moves.Move.the-variants.{GoOn, Finish, Edge, EdgeAt}
 use Rattle.listing.specs.StepAt.{StepAt}
 
 nth1-mem : {A : Type 0} (a : A) (l : List A) (x : ℕ) → nth1 l x ≡ some a → List·Memᴰ a l

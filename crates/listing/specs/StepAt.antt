@@ -10,9 +10,9 @@ use Rattle.meaning.specs.Model.{Model}
 use Rattle.meaning.specs.Text.Choice.{pick}
 use Rattle.meaning.specs.Zones.Zone.{Zone}
 use Rattle.meaning.specs.Zones.Steps.{steps}
-use Rattle.matrix.specs.Moves.{stepOf, Numbered}
-use Rattle.matrix.specs.declared.moves.Move.{Move}
-use Rattle.matrix.specs.declared.moves.Move.the-variants.{Edge, EdgeAt}
+use Rattle.step_bounds.specs.Moves.{stepOf, Numbered}
+use Rattle.step_bounds.specs.declared.moves.Move.{Move}
+use Rattle.step_bounds.specs.declared.moves.Move.the-variants.{Edge, EdgeAt}
 
 -- r is the step at place x of the zone's list
 pub record StepAt (m : Model) (z : Zone) (x : ℕ) (r : Move) : Type 0 where

@@ -3,16 +3,16 @@
 ghost use mathlib.Core.Path.{_≡_};
 ghost use Prim.Native.Nat.{_≤_, _<_};
 ghost use lib.ListN.{length};
-ghost use Rattle.meaning.specs.Text.ModelReader.{Given};
 ghost use Rattle.meaning.specs.Text.ModelTable.{decode};
 ghost use Rattle.meaning.specs.Zones.Steps.{steps};
-ghost use Rattle.parts.specs.Parts.{releasedIn, toIn};
+ghost use Rattle.model_table.specs.Right.{RightTable};
+ghost use Rattle.model_table.specs.Parts.{releasedIn, toIn};
 ghost use Rattle.steps.specs.Counted.{headIn};
 ghost use Rattle.listing.specs.StepAt.{StepAt, stepBy};
-use matrix::Move;
-use parts::counts::edges;
-use parts::released;
-use parts::to;
+use model_table::counts::edges;
+use model_table::released;
+use model_table::to;
+use step_bounds::Move;
 use steps::claims::share_of;
 
 // The step of an edge at its place with `ahead` before it; only a release that does not overflow has positions.
@@ -31,7 +31,7 @@ fn step_by(model: &[u32], edge: u32, overflow: bool, ahead: usize) -> Move
 
 // The step at place x of the list of zone + 1, whose queue has len tasks.
 pub fn step_at(model: &[u32], table: &[u32], zone: usize, len: usize, x: usize) -> Move
-    requires { ⌜ Given (now model) × (zone < 48) × (len ≤ 6) ⌝ }
+    requires { ⌜ RightTable (now model) × (zone < 48) × (len ≤ 6) ⌝ }
     requires { ⌜ (1 ≤ x) × (x ≤ length (steps (decode (now model)) (headIn (now table) zone len))) ⌝ }
     ensures { λ r. ⌜ StepAt (decode (now (model .entry))) (headIn (now (table .entry)) zone len) x r ⌝ }
 {

@@ -9,7 +9,7 @@ use lib.ListN.{getD, drop}
 use borrow.Author.Tests.{lt-ltb, le-ltb, eq-eqb, ne-eqb}
 use Rattle.meaning.specs.Lists.{elem}
 use Rattle.meaning.specs.Machine.State.{order}
-use Rattle.parts.specs.Parts.{workIn, deadlineIn}
+use Rattle.model_table.specs.Parts.{workIn, deadlineIn}
 use Rattle.machine.specs.Stands.{clockMost, noJob, queueOf}
 use Rattle.machine.specs.ByCell.{clockRight, timely, unused, jobRight, Tells}
 use Rattle.machine.specs.declared.Job.{Job}

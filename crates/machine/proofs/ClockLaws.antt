@@ -18,7 +18,7 @@ use Rattle.meaning.specs.Text.ModelTable.{collect, lowered}
 use Rattle.meaning.proofs.Tests.{leb-same}
 use Rattle.meaning.proofs.Text.Choices.{by-lt}
 use Rattle.meaning.proofs.Text.ModelDecode.{lowered-over, lowered-under}
-use Rattle.parts.specs.Parts.{resetIn, resetsOf}
+use Rattle.model_table.specs.Parts.{resetIn, resetsOf}
 use Rattle.machine.specs.Stands.{padded}
 use Rattle.machine.specs.ByCell.{grownCell, limitMet, boundMet, keptCell}
 use Rattle.machine.proofs.Arrays.{map-at, map-out, padded-length, padded-at, padded-is, padded-read}

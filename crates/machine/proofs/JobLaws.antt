@@ -16,15 +16,15 @@ use Rattle.meaning.specs.Machine.Place.{beatsBy, beats, behind, placeOf}
 use Rattle.meaning.specs.Machine.Release.{overflows, newJob, put}
 use Rattle.meaning.specs.Machine.Tick.{finishes, isLate}
 use Rattle.meaning.specs.Text.Choice.{pick}
-use Rattle.meaning.specs.Text.ModelReader.{Given}
 use Rattle.meaning.specs.Text.ModelTable.{decode}
 use Rattle.meaning.proofs.Hooks.{beats-is, beatsBy-fps, beatsBy-edf, beatsBy-sjf, behind-none, overflows-is, finishes-none, finishes-is}
 use Rattle.meaning.proofs.Machine.Place.{FirstFit, fits-unique, place-is}
 use Rattle.meaning.proofs.Tests.{leb-same}
 use Rattle.meaning.proofs.Text.Choices.{by-eq, by-lt}
 use Rattle.meaning.proofs.Text.Policies.{policy-fps, policy-edf, policy-sjf}
-use Rattle.parts.specs.Parts.{policyIn, workIn, deadlineIn, priorityIn}
-use Rattle.parts.proofs.PartLaws.{policy-is, work-is, deadline-is, priority-is}
+use Rattle.model_table.specs.Right.{RightTable}
+use Rattle.model_table.specs.Parts.{policyIn, workIn, deadlineIn, priorityIn}
+use Rattle.model_table.proofs.PartLaws.{policy-is, work-is, deadline-is, priority-is}
 use Rattle.machine.specs.Stands.{jobOf, cellsOf}
 use Rattle.machine.specs.ByCell.{soonerIn, shorterIn, beatsIn}
 use Rattle.machine.specs.ByQueue.{queueIn, releasedBy}
@@ -34,7 +34,7 @@ use Rattle.machine.proofs.Searches.{Sought}
 
 -- ---- late, and the last tick
 
-pub late-is : (t : List ℕ) → Given t → (j : M.Job) → eqb (j .age) (deadlineIn t (j .task)) ≡ isLate (decode t) j
+pub late-is : (t : List ℕ) → RightTable t → (j : M.Job) → eqb (j .age) (deadlineIn t (j .task)) ≡ isLate (decode t) j
 late-is t g j = ap (eqb (j .age)) (deadline-is t g (j .task))
 
 pub finishes-empty : (m : Model) (q : List M.Job) → length q ≡ 0 → finishes m q ≡ false
@@ -47,7 +47,7 @@ finishes-head m d (j ∷ q) h = finishes-is m j q
 
 -- ---- who beats whom
 
-module _ (t : List ℕ) (g : Given t) (n : ℕ) (j : Job) where
+module _ (t : List ℕ) (g : RightTable t) (n : ℕ) (j : Job) where
   -- the comparison under the policy that the table has
   by-policy : {p : Policy} → decode t .policy ≡ p
       → beats (decode t) n (jobOf j) ≡ beatsBy p n (taskAt (decode t) n) (taskAt (decode t) (j .task)) (jobOf j)

@@ -18,17 +18,19 @@ use Rattle.meaning.specs.Machine.State.{order}
 use Rattle.meaning.specs.Machine.Release.{overflows}
 use Rattle.meaning.specs.Zones.Proper.{ProperJob, fits, Proper}
 use Rattle.meaning.specs.Text.Choice.{pick}
-use Rattle.meaning.specs.Text.ModelReader.{Given}
 use Rattle.meaning.specs.Text.ModelTable.{decode, clocks, locations}
 use Rattle.meaning.proofs.Tests.{and-left, and-right, and-both, not-of-false, false-of-not}
 use Rattle.meaning.proofs.Lists.{mem-at, at-mem}
 use Rattle.meaning.proofs.Hooks.{overflows-is}
 use Rattle.meaning.proofs.Text.Choices.{by-lt}
 use Rattle.meaning.proofs.Text.Keyed.{nth-some, nth-in}
-use Rattle.meaning.proofs.Text.ModelTheorems.{given-right}
-use Rattle.parts.specs.Parts.{workIn, deadlineIn}
-use Rattle.parts.proofs.PartLaws.{clocks-is, locations-is, work-is, deadline-is}
+use Rattle.model_table.specs.Right.{RightTable}
+use Rattle.model_table.specs.Parts.{workIn, deadlineIn}
+use Rattle.model_table.proofs.GivenLaws.{given-table}
+use Rattle.model_table.proofs.PartLaws.{clocks-is, locations-is, work-is, deadline-is}
 use Rattle.machine.specs.Stands.{clockMost, jobOf, cellOf, queueOf, noJob, padded, cellsOf, stateOf, held, Lendable}
+use Rattle.machine.specs.Promise.{Usable}
+use Rattle.machine.specs.BySteps.{Lent}
 use Rattle.machine.specs.ByCell.{allTo, Small, Young, clockRight, timely, unused, jobRight}
 use Rattle.machine.specs.declared.Job.{Job}
 use Rattle.machine.specs.declared.State.{State}
@@ -68,7 +70,7 @@ getD-some (y ∷ l) (suc k) d x e = getD-some l k d x e
 
 -- ---- each cell
 
-module _ (t : List ℕ) (g : Given t) (s : State) where
+module _ (t : List ℕ) (g : RightTable t) (s : State) where
   abbrev m : Model
   m = decode t
 
@@ -86,7 +88,7 @@ module _ (t : List ℕ) (g : Given t) (s : State) where
     clock-out k h b = let e = all-each 4 (clockRight (s .clocks) (clocks t)) cs k b in eqb-true (getD (s .clocks) k 0) 0 (rw (le-ltb k (clocks t) h) at e)
 
     few-clocks : clocks t ≤ 4
-    few-clocks = let a = clocks-is t g in let b = given-right t g .clocks in omega arith
+    few-clocks = let a = clocks-is t g in let b = g .right .clocks in omega arith
 
     small-clock : (k : ℕ) → getD (s .clocks) k 0 ≤ clockMost
     small-clock k =
@@ -253,3 +255,7 @@ module _ (t : List ℕ) (g : Given t) (s : State) where
           (λ h. let p = lent-proper k h .done in omega (arith, work-is t g (getD (s .jobs) k noJob .task), a (getD (s .jobs) k noJob .task)))
           (λ h. let e = ap (λ (j : Job). j .done) (lent-unused k h) in omega arith);
     }
+
+-- what the public functions find of a table and a state is what the steps ask
+pub usable-lent : (t : List ℕ) (s : State) → Usable t s → Lent t s
+usable-lent t s u = record { table = given-table t (u .given); lendable = u .lendable }

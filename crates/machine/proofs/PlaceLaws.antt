@@ -20,14 +20,15 @@ use Rattle.meaning.specs.Machine.Release.{overflows}
 use Rattle.meaning.specs.Zones.Proper.{ProperJob, fits}
 use Rattle.meaning.specs.Text.Choice.{pick}
 use Rattle.meaning.specs.Text.Refusals.{notProper}
-use Rattle.meaning.specs.Text.ModelReader.{Given}
 use Rattle.meaning.specs.Text.ModelTable.{decode, tasks}
 use Rattle.meaning.proofs.Hooks.{overflows-is}
 use Rattle.meaning.proofs.Tests.{and-left, and-right, and-both, never}
 use Rattle.meaning.proofs.Lists.{mem-at, at-mem}
 use Rattle.meaning.proofs.Text.Keyed.{nth-some, nth-in}
-use Rattle.parts.specs.Parts.{workIn, deadlineIn}
-use Rattle.parts.proofs.PartLaws.{tasks-is, work-is, deadline-is}
+use Rattle.model_table.specs.Right.{RightTable}
+use Rattle.model_table.specs.Parts.{workIn, deadlineIn}
+use Rattle.model_table.proofs.GivenLaws.{given-table}
+use Rattle.model_table.proofs.PartLaws.{tasks-is, work-is, deadline-is}
 use Rattle.machine.specs.Stands.{jobOf, noJob}
 use Rattle.machine.specs.Promise.{placeSaid, at, full, refusedPlace, Listed, Placing}
 use Rattle.machine.specs.ByCell.{timely, beatsIn}
@@ -57,7 +58,7 @@ getD-some (y ∷ l) (suc k) d x e = getD-some l k d x e
 
 -- ---- the list, by the table and by the model
 
-module _ (t : List ℕ) (g : Given t) (n : ℕ) (js : List Job) where
+module _ (t : List ℕ) (g : RightTable t) (n : ℕ) (js : List Job) where
   abbrev m : Model
   m = decode t
 
@@ -125,13 +126,14 @@ good-seen t n js s w r = go (s .good) refl
 -- what `place` promises, from what was found over the whole list
 pub looked-all : (t : List ℕ) (n : ℕ) (js : List Job) (s : Seen) (k : ℕ) (r : Placed) → Looked t n js s → k ≡ length js → Finished t n k s r → Placing t js n r
 looked-all t n js s k r w z f = record {
-  unusable = λ h. f .unusable (λ a e. h (a .given) (right-listed t (a .given) n js (a .low) (a .high) (w .good e .right)));
+  unusable = λ h. f .unusable (λ a e. h (a .given) (right-listed t (given-table t (a .given)) n js (a .low) (a .high) (w .good e .right)));
   usable = λ g l.
-      let e = good-seen t n js s w (listed-right t g n js l) in
+      let v = given-table t g in
+      let e = good-seen t n js s w (listed-right t v n js l) in
       let h = l .high in
-      f .usable (record { given = g; low = l .low; high = omega (arith, tasks-is t g) }) e
-      ∙ ap₂ (λ (b : Bool) (p : ℕ). pick b full (at (suc p))) (queued-found t g n js s (w .good e))
-      (ap (pick (s .found) (s .place)) z ∙ place-found t g n js s (w .good e) (s .found) refl);
+      f .usable (record { given = g; low = l .low; high = omega (arith, tasks-is t v) }) e
+      ∙ ap₂ (λ (b : Bool) (p : ℕ). pick b full (at (suc p))) (queued-found t v n js s (w .good e))
+      (ap (pick (s .found) (s .place)) z ∙ place-found t v n js s (w .good e) (s .found) refl);
 }
 
 -- the same, where the walk has passed k jobs and there are no more

@@ -14,8 +14,8 @@ use Rattle.meaning.specs.Lists.{elem}
 use Rattle.meaning.specs.Text.Choice.{pick}
 use Rattle.meaning.proofs.Tests.{and-left, and-right, and-both, or-left, or-right, not-of-false, false-of-not, never}
 use Rattle.meaning.proofs.Text.Choices.{by-lt, by-eq}
-use Rattle.parts.specs.Parts.{ofTask, workIn, deadlineIn}
-use Rattle.parts.proofs.CellLaws.{task-zero, task-out}
+use Rattle.model_table.specs.Parts.{ofTask, workIn, deadlineIn}
+use Rattle.model_table.proofs.CellLaws.{task-zero, task-out}
 use Rattle.machine.specs.Stands.{noJob}
 use Rattle.machine.specs.ByCell.{timely, beatsIn}
 use Rattle.machine.specs.ByPlace.{startSeen, badSeen, nextSeen, takenSeen, lookOf}

@@ -23,16 +23,15 @@ use Rattle.meaning.specs.Machine.Step.{tick, edge, edgeAllowed, allowed, judged
 use Rattle.meaning.specs.Machine.Run.{start}
 use Rattle.meaning.specs.Text.Choice.{pick}
 use Rattle.meaning.specs.Text.Refusals.{notAllowed, clockEnd}
-use Rattle.meaning.specs.Text.ModelReader.{Given}
 use Rattle.meaning.specs.Text.ModelTable.{decode, clocks, edges}
 use Rattle.meaning.proofs.Hooks.{released-is, releasedAtStart-is, leavesAt-is, target-is, guardTest-is, start-fits}
 use Rattle.meaning.proofs.Tests.{and-left, and-right, and-both}
 use Rattle.meaning.proofs.Lists.{every-mem, mem-every, mem-at, at-mem}
 use Rattle.meaning.proofs.Text.Keyed.{nth-some, nth-in}
-use Rattle.meaning.proofs.Text.ModelTheorems.{given-right}
-use Rattle.parts.specs.Parts.{releasedIn, limitsOf, fromIn, toIn, guardOf, resetsOf, edgeOf}
-use Rattle.parts.proofs.PartLaws.{clocks-is, limits-is, edge-is, edge-no}
-use Rattle.parts.proofs.PartLaws as P
+use Rattle.model_table.specs.Right.{RightTable}
+use Rattle.model_table.specs.Parts.{releasedIn, limitsOf, fromIn, toIn, guardOf, resetsOf, edgeOf}
+use Rattle.model_table.proofs.PartLaws.{clocks-is, limits-is, edge-is, edge-no}
+use Rattle.model_table.proofs.PartLaws as P
 use Rattle.machine.specs.Stands.{clockMost, jobOf, cellOf, queueOf, noJob, padded, cellsOf, stateOf, held, Lendable}
 use Rattle.machine.specs.Promise.{Said, went, missed, overflow, refused, withinEnd, told, answered}
 use Rattle.machine.specs.ByCell.{allTo, leftOf}
@@ -113,7 +112,7 @@ told-missed s x (suc k) e = refl
 
 -- ---- a tick
 
-module _ (t : List ℕ) (g : Given t) (s : State) (w : Lendable (decode t) s) where
+module _ (t : List ℕ) (g : RightTable t) (s : State) (w : Lendable (decode t) s) where
   abbrev m : Model
   m = decode t
 
@@ -121,7 +120,7 @@ module _ (t : List ℕ) (g : Given t) (s : State) (w : Lendable (decode t) s) wh
   x = stateOf m s
 
   few : m .clocks ≤ 4
-  few = given-right t g .clocks
+  few = g .right .clocks
 
   clocks-length : length (x .clocks) ≡ m .clocks
   clocks-length = w .proper .clocks
@@ -298,7 +297,7 @@ released-few m t q = go (eqb t 0 || q .overflowed) (overflows m t (order (queueI
     go false false = omega arith
 
 -- the release at a location, of a task read from the table
-pub released-by : (t : List ℕ) → Given t → (l task : ℕ) → task ≡ releasedIn t l → (js : List Job) (n : ℕ) → js ≡ cellsOf (queueOf js n) → n ≡ length (queueOf js n)
+pub released-by : (t : List ℕ) → RightTable t → (l task : ℕ) → task ≡ releasedIn t l → (js : List Job) (n : ℕ) → js ≡ cellsOf (queueOf js n) → n ≡ length (queueOf js n)
     → (r : Queue) → r ≡ releasedBy (decode t) task (record { jobs = js; count = n; overflowed = false }) → ReleasedAll (decode t) (releases (locationAt (decode t) l)) (queueOf js n) r
 released-by t g l task e js n f h r q =
     subst (ReleasedAll (decode t) (releases (locationAt (decode t) l)) (queueOf js n))

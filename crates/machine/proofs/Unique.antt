@@ -17,7 +17,9 @@ use Rattle.meaning.specs.Text.Records.{Answer, done, refused, write}
 use Rattle.meaning.proofs.Lists.{sameList-eq, sameList-refl}
 use Rattle.meaning.proofs.Tests.{and-left, and-right, and-both, never}
 use Rattle.meaning.proofs.Text.ModelTheorems.{given-iff}
-use Rattle.parts.proofs.PartLaws.{tasks-is}
+use Rattle.model_table.specs.Right.{RightTable}
+use Rattle.model_table.proofs.GivenLaws.{given-table}
+use Rattle.model_table.proofs.PartLaws.{tasks-is}
 use Rattle.machine.specs.Stands.{jobOf, noJob, Lendable}
 use Rattle.machine.specs.Promise as P
 use Rattle.machine.specs.Promise.{said, saidBy, placeSaid, Usable, Stepped, Started, Listed, Placing}
@@ -56,7 +58,7 @@ given-or-not t = go (is-answer t (readModel size (write format t)))
 
 -- ---- a state that may be lent, or not
 
-pub lendable-or-not : (t : List ℕ) → Given t → (s : State) → Dec (Lendable (decode t) s)
+pub lendable-or-not : (t : List ℕ) → RightTable t → (s : State) → Dec (Lendable (decode t) s)
 lendable-or-not t g s =
     one (decLe 1 (s .location)) (decLe (s .location) (locations t)) (decLe (s .count) 6) (ℕ-discrete (length (s .clocks)) 4) (ℕ-discrete (length (s .jobs)) 6)
   where
@@ -79,7 +81,7 @@ usable-or-not t s = go (given-or-not t)
     lent g (no h) = no (λ u. h (u .lendable))
 
     go : Dec (Given t) → Dec (Usable t s)
-    go (yes g) = lent g (lendable-or-not t g s)
+    go (yes g) = lent g (lendable-or-not t (given-table t g) s)
     go (no h) = no (λ u. h (u .given))
 
 -- ---- a reply is what it says
@@ -137,7 +139,7 @@ rightly-or-not t n js =
     (λ a. by-test (once (tasksOf js)) (λ b. yes (record { timely = each-every (timely t) noJob js a; once = b })) (λ b. no (λ r. never (r .once) b)))
     (λ a. no (λ r. never (every-each (timely t) noJob js (r .timely)) a))
 
-listed-or-not : (t : List ℕ) → Given t → (n : ℕ) (js : List Job) → Dec (Listed (decode t) n (map jobOf js))
+listed-or-not : (t : List ℕ) → RightTable t → (n : ℕ) (js : List Job) → Dec (Listed (decode t) n (map jobOf js))
 listed-or-not t g n js = go (decLe 1 n) (decLe n (tasks t)) (rightly-or-not t n js)
   where
     go : Dec (1 ≤ n) → Dec (n ≤ tasks t) → Dec (Rightly t n js) → Dec (Listed (decode t) n (map jobOf js))
@@ -165,5 +167,5 @@ placing-once t js n r r′ a b = place-same r r′ (go (given-or-not t))
     listed g (no h) = a .unusable (λ k. h) ∙ sym (b .unusable (λ k. h))
 
     go : Dec (Given t) → placeSaid r ≡ placeSaid r′
-    go (yes g) = listed g (listed-or-not t g n js)
+    go (yes g) = listed g (listed-or-not t (given-table t g) n js)
     go (no h) = a .unusable (λ g. absurd (h g)) ∙ sym (b .unusable (λ g. absurd (h g)))

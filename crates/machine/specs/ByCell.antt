@@ -8,7 +8,7 @@ use lib.Dec.{ltb, leb, eqb}
 use lib.ListN.{length, getD, drop}
 use Rattle.meaning.specs.Lists.{elem}
 use Rattle.meaning.specs.Machine.State.{order}
-use Rattle.parts.specs.Parts.{policyIn, workIn, deadlineIn, priorityIn}
+use Rattle.model_table.specs.Parts.{policyIn, workIn, deadlineIn, priorityIn}
 use Rattle.meaning.specs.Numbers.{within}
 use Rattle.meaning.specs.Text.Choice.{pick}
 use Rattle.meaning.specs.Text.ModelTable.{lowered}

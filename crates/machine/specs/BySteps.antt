@@ -7,9 +7,16 @@ use Rattle.meaning.specs.Model.{Model, locationAt, releases}
 use Rattle.meaning.specs.Machine.State.{order}
 use Rattle.meaning.specs.Machine.Release.{overflowsAny, putAll}
 use Rattle.meaning.specs.Text.Choice.{pick}
-use Rattle.machine.specs.Stands.{queueOf, cellsOf}
+use Rattle.meaning.specs.Text.ModelTable.{decode}
+use Rattle.model_table.specs.Right.{RightTable}
+use Rattle.machine.specs.Stands.{queueOf, cellsOf, Lendable}
 use Rattle.machine.specs.Promise.{Said, went, overflow}
 use Rattle.machine.specs.declared.State.{State}
+
+-- what the steps ask: the table is right, and the state may be lent with it
+pub record Lent (t : List ℕ) (s : State) : Type 0 where
+  pub table : RightTable t
+  pub lendable : Lendable (decode t) s
 
 -- an allowed edge to location l, with the clocks after its resets
 abbrev pub movedSaid : Model → State → ℕ → List ℕ → Said

@@ -6,8 +6,8 @@ ghost use lib.ListN.{length, getD, take};
 ghost use Rattle.meaning.specs.Lists.{every, nth1D};
 ghost use Rattle.meaning.specs.Machine.Tick.{limitTest};
 ghost use Rattle.meaning.specs.Machine.Edge.{boundTest, resetAll};
-ghost use Rattle.parts.specs.Parts.{limitIn, limitsOf, boundIn, guardOf, resetIn, resetsOf};
-ghost use Rattle.meaning.specs.Text.ModelReader.{Given};
+ghost use Rattle.model_table.specs.Right.{RightTable};
+ghost use Rattle.model_table.specs.Parts.{limitIn, limitsOf, boundIn, guardOf, resetIn, resetsOf};
 ghost use Rattle.machine.specs.Stands.{clockMost, padded};
 ghost use Rattle.machine.specs.ByCell.{limitMet, boundMet, grownCell, keptCell, Small};
 
@@ -34,10 +34,10 @@ pub(crate) fn grow(clocks: [u32; 4], n: usize) -> [u32; 4]
 }
 
 // Does the value of a clock meet its limit at a location, if it has one there?
-fn limit_met(table: &[u32], location: u32, clock: u32, value: u32) -> bool
-    ensures { λ r. ⌜ r ≡ limitMet (limitIn (now (table .entry)) location clock) value ⌝ }
+fn limit_met(model: &[u32], location: u32, clock: u32, value: u32) -> bool
+    ensures { λ r. ⌜ r ≡ limitMet (limitIn (now (model .entry)) location clock) value ⌝ }
 {
-    let limit = parts::limit(table, location, clock);
+    let limit = model_table::limit(model, location, clock);
     if limit == 0 {
         return true;
     }
@@ -45,12 +45,12 @@ fn limit_met(table: &[u32], location: u32, clock: u32, value: u32) -> bool
 }
 
 // Do the clocks meet the limits of a location?
-pub(crate) fn limits_met(table: &[u32], location: u32, clocks: [u32; 4]) -> bool
-    ensures { λ r. ⌜ r ≡ every (limitTest clocks) (limitsOf (now (table .entry)) location) ⌝ }
+pub(crate) fn limits_met(model: &[u32], location: u32, clocks: [u32; 4]) -> bool
+    ensures { λ r. ⌜ r ≡ every (limitTest clocks) (limitsOf (now (model .entry)) location) ⌝ }
 {
     let mut k: usize = 0;
     while k < 4 {
-        if limit_met(table, location, (k + 1) as u32, clocks[k]) {
+        if limit_met(model, location, (k + 1) as u32, clocks[k]) {
             k += 1;
         } else {
             return false;
@@ -68,11 +68,11 @@ fn value(clocks: [u32; 4], i: usize) -> u32
 }
 
 // Is x minus y at most what the guard's bound of i minus j says, if there is one?
-fn bound_met(table: &[u32], edge: u32, i: u32, j: u32, x: u32, y: u32) -> bool
-    requires { ⌜ Given (now table) × (x ≤ clockMost) × (y ≤ clockMost) ⌝ }
-    ensures { λ r. ⌜ r ≡ boundMet (boundIn (now (table .entry)) edge i j) x y ⌝ }
+fn bound_met(model: &[u32], edge: u32, i: u32, j: u32, x: u32, y: u32) -> bool
+    requires { ⌜ RightTable (now model) × (x ≤ clockMost) × (y ≤ clockMost) ⌝ }
+    ensures { λ r. ⌜ r ≡ boundMet (boundIn (now (model .entry)) edge i j) x y ⌝ }
 {
-    let bound = parts::bound(table, edge, i, j);
+    let bound = model_table::bound(model, edge, i, j);
     if bound == 0 {
         return true;
     }
@@ -80,14 +80,14 @@ fn bound_met(table: &[u32], edge: u32, i: u32, j: u32, x: u32, y: u32) -> bool
 }
 
 // Does the guard's bound number x, in the rows of 5, hold of the clocks?
-fn row_met(table: &[u32], edge: u32, clocks: [u32; 4], x: usize) -> bool
-    requires { ⌜ Given (now table) × (x < 25) × Small clocks ⌝ }
-    ensures { λ r. ⌜ r ≡ boundMet (boundIn (now (table .entry)) edge (x / 5) (x % 5)) (nth1D clocks (x / 5) 0) (nth1D clocks (x % 5) 0) ⌝ }
+fn row_met(model: &[u32], edge: u32, clocks: [u32; 4], x: usize) -> bool
+    requires { ⌜ RightTable (now model) × (x < 25) × Small clocks ⌝ }
+    ensures { λ r. ⌜ r ≡ boundMet (boundIn (now (model .entry)) edge (x / 5) (x % 5)) (nth1D clocks (x / 5) 0) (nth1D clocks (x % 5) 0) ⌝ }
 {
     let i = x / 5;
     let j = x % 5;
     bound_met(
-        table,
+        model,
         edge,
         i as u32,
         j as u32,
@@ -97,13 +97,13 @@ fn row_met(table: &[u32], edge: u32, clocks: [u32; 4], x: usize) -> bool
 }
 
 // Does the guard of an edge hold of the clocks?
-pub(crate) fn guard_holds(table: &[u32], edge: u32, clocks: [u32; 4]) -> bool
-    requires { ⌜ Given (now table) × Small clocks ⌝ }
-    ensures { λ r. ⌜ r ≡ every (boundTest clocks) (guardOf (now (table .entry)) edge) ⌝ }
+pub(crate) fn guard_holds(model: &[u32], edge: u32, clocks: [u32; 4]) -> bool
+    requires { ⌜ RightTable (now model) × Small clocks ⌝ }
+    ensures { λ r. ⌜ r ≡ every (boundTest clocks) (guardOf (now (model .entry)) edge) ⌝ }
 {
     let mut x: usize = 0;
     while x < 25 {
-        if row_met(table, edge, clocks, x) {
+        if row_met(model, edge, clocks, x) {
             x += 1;
         } else {
             return false;
@@ -113,10 +113,10 @@ pub(crate) fn guard_holds(table: &[u32], edge: u32, clocks: [u32; 4]) -> bool
 }
 
 // A clock's value after an edge: 0 if it is reset.
-fn kept(table: &[u32], edge: u32, clock: u32, value: u32) -> u32
-    ensures { λ r. ⌜ r ≡ keptCell (resetIn (now (table .entry)) edge clock) value ⌝ }
+fn kept(model: &[u32], edge: u32, clock: u32, value: u32) -> u32
+    ensures { λ r. ⌜ r ≡ keptCell (resetIn (now (model .entry)) edge clock) value ⌝ }
 {
-    if parts::reset(table, edge, clock) {
+    if model_table::reset(model, edge, clock) {
         0
     } else {
         value
@@ -124,13 +124,13 @@ fn kept(table: &[u32], edge: u32, clock: u32, value: u32) -> u32
 }
 
 // The clocks after the resets of an edge.
-pub(crate) fn reset(table: &[u32], edge: u32, clocks: [u32; 4]) -> [u32; 4]
-    ensures { λ r. ⌜ r ≡ resetAll (resetsOf (now (table .entry)) edge) clocks ⌝ }
+pub(crate) fn reset(model: &[u32], edge: u32, clocks: [u32; 4]) -> [u32; 4]
+    ensures { λ r. ⌜ r ≡ resetAll (resetsOf (now (model .entry)) edge) clocks ⌝ }
 {
     let mut r = clocks;
     let mut k: usize = 0;
     while k < 4 {
-        r[k] = kept(table, edge, (k + 1) as u32, r[k]);
+        r[k] = kept(model, edge, (k + 1) as u32, r[k]);
         k += 1;
     }
     r

@@ -3,6 +3,7 @@ ghost use mathlib.Core.Path.{_≡_};
 ghost use Prim.Native.Nat.{ℕ, suc, _+_, _-_, _≤_, _<_};
 ghost use Rattle.meaning.specs.Text.ModelReader.{Given};
 ghost use Rattle.meaning.specs.Text.ModelTable.{decode};
+ghost use Rattle.model_table.specs.Right.{RightTable};
 ghost use Rattle.machine.specs.Stands.{Lendable};
 ghost use Rattle.machine.specs.Promise.{Usable};
 ghost use Rattle.machine.specs.ByCell.{allTo, clockRight, ClocksJudged, timely, unused, jobRight, QueueJudged, Tells};
@@ -37,11 +38,11 @@ fn clocks_right(clocks: [u32; 4], n: usize) -> bool
 }
 
 // Has the job work and time left?
-pub(crate) fn is_timely(table: &[u32], job: Job) -> bool
-    ensures { λ r. ⌜ r ≡ timely (now (table .entry)) job ⌝ }
+pub(crate) fn is_timely(model: &[u32], job: Job) -> bool
+    ensures { λ r. ⌜ r ≡ timely (now (model .entry)) job ⌝ }
 {
-    if job.done < parts::work(table, job.task) {
-        return job.age < parts::deadline(table, job.task);
+    if job.done < model_table::work(model, job.task) {
+        return job.age < model_table::deadline(model, job.task);
     }
     false
 }
@@ -59,13 +60,13 @@ fn is_unused(job: Job) -> bool
 }
 
 // Is the job at place k proper, with its task not behind it, or the cell unused?
-fn job_right(table: &[u32], jobs: [Job; 6], count: usize, k: usize) -> bool
+fn job_right(model: &[u32], jobs: [Job; 6], count: usize, k: usize) -> bool
     requires { ⌜ (k < 6) × (count ≤ 6) ⌝ }
-    ensures { λ r. ⌜ r ≡ jobRight (now (table .entry)) jobs count k ⌝ }
+    ensures { λ r. ⌜ r ≡ jobRight (now (model .entry)) jobs count k ⌝ }
 {
     let job = jobs[k];
     if k < count {
-        if is_timely(table, job) {
+        if is_timely(model, job) {
             if is_queued(job.task, jobs, k + 1, count) {
                 return false;
             }
@@ -77,13 +78,13 @@ fn job_right(table: &[u32], jobs: [Job; 6], count: usize, k: usize) -> bool
 }
 
 // Are all cells of the queue so?
-fn queue_right(table: &[u32], jobs: [Job; 6], count: usize) -> bool
+fn queue_right(model: &[u32], jobs: [Job; 6], count: usize) -> bool
     requires { ⌜ count ≤ 6 ⌝ }
-    ensures { λ r. ⌜ QueueJudged (now (table .entry)) jobs count r ⌝ }
+    ensures { λ r. ⌜ QueueJudged (now (model .entry)) jobs count r ⌝ }
 {
     let mut k: usize = 0;
     while k < 6 {
-        if job_right(table, jobs, count, k) {
+        if job_right(model, jobs, count, k) {
             k += 1;
         } else {
             return false;
@@ -93,15 +94,15 @@ fn queue_right(table: &[u32], jobs: [Job; 6], count: usize) -> bool
 }
 
 // May the state be lent?
-pub fn is_lendable(table: &[u32], state: State) -> bool
-    requires { ⌜ Given (now table) ⌝ }
-    ensures { λ r. ⌜ Tells r (Lendable (decode (now (table .entry))) state) ⌝ }
+pub fn is_lendable(model: &[u32], state: State) -> bool
+    requires { ⌜ RightTable (now model) ⌝ }
+    ensures { λ r. ⌜ Tells r (Lendable (decode (now (model .entry))) state) ⌝ }
 {
     let location = state.location;
     if location == 0 {
         return false;
     }
-    if parts::counts::locations(table) < location {
+    if model_table::counts::locations(model) < location {
         return false;
     }
     let count = state.count;
@@ -109,26 +110,26 @@ pub fn is_lendable(table: &[u32], state: State) -> bool
         return false;
     }
     let clocks = state.clocks;
-    if clocks_right(clocks, parts::clocks(table) as usize) {
+    if clocks_right(clocks, model_table::clocks(model) as usize) {
         let jobs = state.jobs;
-        return queue_right(table, jobs, count as usize);
+        return queue_right(model, jobs, count as usize);
     }
     false
 }
 
 // Is the table one that a text gives?
-pub(crate) fn is_given(table: &[u32]) -> bool
-    ensures { λ r. ⌜ Tells r (Given (now (table .entry))) ⌝ }
+pub(crate) fn is_given(model: &[u32]) -> bool
+    ensures { λ r. ⌜ Tells r (Given (now (model .entry))) ⌝ }
 {
-    model::writing::is_model(table)
+    model_text::writing::is_model(model)
 }
 
 // May the state be lent with this table?
-pub(crate) fn is_usable(table: &[u32], state: State) -> bool
-    ensures { λ r. ⌜ Tells r (Usable (now (table .entry)) state) ⌝ }
+pub(crate) fn is_usable(model: &[u32], state: State) -> bool
+    ensures { λ r. ⌜ Tells r (Usable (now (model .entry)) state) ⌝ }
 {
-    if is_given(table) {
-        return is_lendable(table, state);
+    if is_given(model) {
+        return is_lendable(model, state);
     }
     false
 }

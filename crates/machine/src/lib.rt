@@ -8,7 +8,7 @@ mod clocks;
 pub mod judge;
 mod listed;
 mod queue;
-mod steps;
+pub mod steps;
 
 // A job: its task, the ticks of work done, and its age in ticks since release.
 pub struct Job {
@@ -47,44 +47,44 @@ pub enum Placed {
 }
 
 // The start of a model: refusal 13, with a state of nothing, if the table is none that a text gives.
-pub fn start(table: &[u32]) -> Reply
-    ensures { λ r. ⌜ Started (now (table .entry)) r ⌝ }
+pub fn start(model: &[u32]) -> Reply
+    ensures { λ r. ⌜ Started (now (model .entry)) r ⌝ }
 {
-    if judge::is_given(table) {
-        return steps::start_given(table);
+    if judge::is_given(model) {
+        return steps::start_given(model);
     }
     steps::refused(steps::no_state(), 13)
 }
 
 // One tick: refused by 13, then 12, then 14; else the state after it, and whether it is a miss.
-pub fn tick(table: &[u32], state: State) -> Reply
-    ensures { λ r. ⌜ Stepped (now (table .entry)) state tick r ⌝ }
+pub fn tick(model: &[u32], state: State) -> Reply
+    ensures { λ r. ⌜ Stepped (now (model .entry)) state tick r ⌝ }
 {
-    if judge::is_usable(table, state) {
-        return steps::tick_given(table, state);
+    if judge::is_usable(model, state) {
+        return steps::tick_given(model, state);
     }
     steps::refused(state, 13)
 }
 
 // One edge by its number in the file: refused by 13, then 12; else the state after it, or an overflow.
-pub fn edge(table: &[u32], state: State, number: u32) -> Reply
-    ensures { λ r. ⌜ Stepped (now (table .entry)) state (edge number) r ⌝ }
+pub fn edge(model: &[u32], state: State, number: u32) -> Reply
+    ensures { λ r. ⌜ Stepped (now (model .entry)) state (edge number) r ⌝ }
 {
-    if judge::is_usable(table, state) {
-        return steps::edge_given(table, state, number);
+    if judge::is_usable(model, state) {
+        return steps::edge_given(model, state, number);
     }
     steps::refused(state, 13)
 }
 
 // The place of a new job of a task in a lent list of jobs, one after the other: the walk.
-pub fn place(table: &[u32], jobs: &[Job], task: u32) -> Placed
-    ensures { λ r. ⌜ Placing (now (table .entry)) (now (jobs .entry)) task r ⌝ }
+pub fn place(model: &[u32], jobs: &[Job], task: u32) -> Placed
+    ensures { λ r. ⌜ Placing (now (model .entry)) (now (jobs .entry)) task r ⌝ }
 {
     let mut s = listed::begin();
     let mut k = 0;
     while k < jobs.len() {
-        s = listed::look(table, task, k, s, jobs[k]);
+        s = listed::look(model, task, k, s, jobs[k]);
         k = k + 1;
     }
-    listed::finish(table, task, k, s)
+    listed::finish(model, task, k, s)
 }

@@ -59,9 +59,9 @@ fn either(a: bool, b: bool) -> bool
 }
 
 // A job that has work and time left is taken in, with k ahead, unless its task is there already: the first that is beaten counts.
-fn take_in(table: &[u32], task: u32, k: usize, s: Seen, job: Job) -> Seen
+fn take_in(model: &[u32], task: u32, k: usize, s: Seen, job: Job) -> Seen
     requires { ⌜ (1 ≤ job .task) × (job .task ≤ 6) ⌝ }
-    ensures { λ r. ⌜ r ≡ takenSeen (now (table .entry)) task k s job ⌝ }
+    ensures { λ r. ⌜ r ≡ takenSeen (now (model .entry)) task k s job ⌝ }
 {
     let i = (job.task - 1) as usize;
     let mut marks = s.marks;
@@ -79,7 +79,7 @@ fn take_in(table: &[u32], task: u32, k: usize, s: Seen, job: Job) -> Seen
             marks,
         };
     }
-    let found = beats(table, task, job);
+    let found = beats(model, task, job);
     Seen {
         good: true,
         found,
@@ -90,12 +90,12 @@ fn take_in(table: &[u32], task: u32, k: usize, s: Seen, job: Job) -> Seen
 }
 
 // The work at one job, which has k ahead.
-pub(crate) fn look(table: &[u32], task: u32, k: usize, s: Seen, job: Job) -> Seen
-    ensures { λ r. ⌜ r ≡ lookOf (now (table .entry)) task k s job ⌝ }
+pub(crate) fn look(model: &[u32], task: u32, k: usize, s: Seen, job: Job) -> Seen
+    ensures { λ r. ⌜ r ≡ lookOf (now (model .entry)) task k s job ⌝ }
 {
     if s.good {
-        if is_timely(table, job) {
-            return take_in(table, task, k, s, job);
+        if is_timely(model, job) {
+            return take_in(model, task, k, s, job);
         }
         return bad();
     }
@@ -103,16 +103,16 @@ pub(crate) fn look(table: &[u32], task: u32, k: usize, s: Seen, job: Job) -> See
 }
 
 // Is the table one that a text gives, and the task one of its model?
-fn is_known(table: &[u32], task: u32) -> bool
-    ensures { λ r. ⌜ Tells r (Known (now (table .entry)) task) ⌝ }
+fn is_known(model: &[u32], task: u32) -> bool
+    ensures { λ r. ⌜ Tells r (Known (now (model .entry)) task) ⌝ }
 {
     if task == 0 {
         return false;
     }
-    if parts::counts::tasks(table) < task {
+    if model_table::counts::tasks(model) < task {
         return false;
     }
-    is_given(table)
+    is_given(model)
 }
 
 // Overflow, or the position, of what a walk over all k jobs of a right list has found.
@@ -130,11 +130,11 @@ fn position(k: usize, s: Seen) -> Placed
 }
 
 // The answer, of what a walk over all k jobs has found.
-pub(crate) fn finish(table: &[u32], task: u32, k: usize, s: Seen) -> Placed
+pub(crate) fn finish(model: &[u32], task: u32, k: usize, s: Seen) -> Placed
     requires { ⌜ Ended k s ⌝ }
-    ensures { λ r. ⌜ Finished (now (table .entry)) task k s r ⌝ }
+    ensures { λ r. ⌜ Finished (now (model .entry)) task k s r ⌝ }
 {
-    if is_known(table, task) {
+    if is_known(model, task) {
         if s.good {
             return position(k, s);
         }

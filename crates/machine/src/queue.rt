@@ -7,8 +7,8 @@ ghost use Rattle.meaning.specs.Lists.{elem, insertAt};
 ghost use Rattle.meaning.specs.Machine.State.{order};
 ghost use Rattle.meaning.specs.Machine.Tick.{finishes, served, isLate, late};
 ghost use Rattle.meaning.specs.Machine.Place.{placeOf};
-ghost use Rattle.meaning.specs.Text.ModelReader.{Given};
 ghost use Rattle.meaning.specs.Text.ModelTable.{decode};
+ghost use Rattle.model_table.specs.Right.{RightTable};
 ghost use Rattle.machine.specs.Stands.{jobOf, queueOf, cellsOf};
 ghost use Rattle.machine.specs.ByCell.{soonerIn, shorterIn, beatsIn, Young, agedCell, afterCell, insertCell, leftOf};
 ghost use Rattle.machine.specs.ByQueue.{releasedBy};
@@ -84,33 +84,33 @@ pub(crate) fn left(count: usize, finishes: bool) -> usize
 }
 
 // Is this tick the head's last?
-pub(crate) fn finishes(table: &[u32], jobs: [Job; 6], count: usize) -> bool
-    requires { ⌜ Given (now table) × (count ≤ 6) × Young jobs ⌝ }
-    ensures { λ r. ⌜ r ≡ finishes (decode (now (table .entry))) (queueOf jobs count) ⌝ }
+pub(crate) fn finishes(model: &[u32], jobs: [Job; 6], count: usize) -> bool
+    requires { ⌜ RightTable (now model) × (count ≤ 6) × Young jobs ⌝ }
+    ensures { λ r. ⌜ r ≡ finishes (decode (now (model .entry))) (queueOf jobs count) ⌝ }
 {
     if count == 0 {
         return false;
     }
     let head = jobs[0];
-    parts::work(table, head.task) <= head.done + 1
+    model_table::work(model, head.task) <= head.done + 1
 }
 
 // Has the job work left and no time left?
-fn is_late(table: &[u32], job: Job) -> bool
-    requires { ⌜ Given (now table) ⌝ }
-    ensures { λ r. ⌜ r ≡ isLate (decode (now (table .entry))) (jobOf job) ⌝ }
+fn is_late(model: &[u32], job: Job) -> bool
+    requires { ⌜ RightTable (now model) ⌝ }
+    ensures { λ r. ⌜ r ≡ isLate (decode (now (model .entry))) (jobOf job) ⌝ }
 {
-    job.age == parts::deadline(table, job.task)
+    job.age == model_table::deadline(model, job.task)
 }
 
 // The first position at fault in the queue; 0: none.
-pub(crate) fn first_late(table: &[u32], jobs: [Job; 6], count: usize) -> u32
-    requires { ⌜ Given (now table) × (count ≤ 6) ⌝ }
-    ensures { λ r. ⌜ r ≡ late (decode (now (table .entry))) (queueOf jobs count) ⌝ }
+pub(crate) fn first_late(model: &[u32], jobs: [Job; 6], count: usize) -> u32
+    requires { ⌜ RightTable (now model) × (count ≤ 6) ⌝ }
+    ensures { λ r. ⌜ r ≡ late (decode (now (model .entry))) (queueOf jobs count) ⌝ }
 {
     let mut k: usize = 0;
     while k < count {
-        if is_late(table, jobs[k]) {
+        if is_late(model, jobs[k]) {
             return (k + 1) as u32;
         }
         k += 1;
@@ -119,17 +119,17 @@ pub(crate) fn first_late(table: &[u32], jobs: [Job; 6], count: usize) -> u32
 }
 
 // Has a new job of a task fewer ticks left to its deadline than a queued job? At equality the larger number decides.
-fn is_sooner(table: &[u32], task: u32, job: Job) -> bool
-    ensures { λ r. ⌜ r ≡ soonerIn (now (table .entry)) task job ⌝ }
+fn is_sooner(model: &[u32], task: u32, job: Job) -> bool
+    ensures { λ r. ⌜ r ≡ soonerIn (now (model .entry)) task job ⌝ }
 {
     let other = job.task;
     let age = job.age;
-    let due = parts::deadline(table, other);
+    let due = model_table::deadline(model, other);
     if due < age {
         return false;
     }
     let left = due - age;
-    let fresh = parts::deadline(table, task);
+    let fresh = model_table::deadline(model, task);
     if fresh == left {
         return other < task;
     }
@@ -137,39 +137,39 @@ fn is_sooner(table: &[u32], task: u32, job: Job) -> bool
 }
 
 // Has a new job of a task less work than a queued job still owes?
-fn is_shorter(table: &[u32], task: u32, job: Job) -> bool
-    ensures { λ r. ⌜ r ≡ shorterIn (now (table .entry)) task job ⌝ }
+fn is_shorter(model: &[u32], task: u32, job: Job) -> bool
+    ensures { λ r. ⌜ r ≡ shorterIn (now (model .entry)) task job ⌝ }
 {
-    let work = parts::work(table, job.task);
+    let work = model_table::work(model, job.task);
     let done = job.done;
     if work < done {
         return false;
     }
-    parts::work(table, task) < work - done // at equality the queued job stays ahead
+    model_table::work(model, task) < work - done // at equality the queued job stays ahead
 }
 
 // Does a new job of a task beat a queued job? By the larger priority, by fewer ticks left, or by less work.
-pub(crate) fn beats(table: &[u32], task: u32, job: Job) -> bool
-    ensures { λ r. ⌜ r ≡ beatsIn (now (table .entry)) task job ⌝ }
+pub(crate) fn beats(model: &[u32], task: u32, job: Job) -> bool
+    ensures { λ r. ⌜ r ≡ beatsIn (now (model .entry)) task job ⌝ }
 {
-    let policy = parts::policy(table);
+    let policy = model_table::policy(model);
     if policy == 1 {
-        return parts::priority(table, job.task) < parts::priority(table, task);
+        return model_table::priority(model, job.task) < model_table::priority(model, task);
     }
     if policy == 2 {
-        return is_sooner(table, task, job);
+        return is_sooner(model, task, job);
     }
-    is_shorter(table, task, job)
+    is_shorter(model, task, job)
 }
 
 // How many jobs of the queue stay ahead of a new job of a task: it goes in front of the first that it beats, else last.
-pub(crate) fn place_among(table: &[u32], task: u32, jobs: [Job; 6], count: usize) -> usize
-    requires { ⌜ Given (now table) × (count ≤ 6) × Young jobs ⌝ }
-    ensures { λ r. ⌜ r ≡ placeOf (decode (now (table .entry))) task (queueOf jobs count) ⌝ }
+pub(crate) fn place_among(model: &[u32], task: u32, jobs: [Job; 6], count: usize) -> usize
+    requires { ⌜ RightTable (now model) × (count ≤ 6) × Young jobs ⌝ }
+    ensures { λ r. ⌜ r ≡ placeOf (decode (now (model .entry))) task (queueOf jobs count) ⌝ }
 {
     let mut k: usize = 0;
     while k < count {
-        if beats(table, task, jobs[k]) {
+        if beats(model, task, jobs[k]) {
             return k;
         }
         k += 1;
@@ -240,9 +240,9 @@ pub struct Queue {
 }
 
 // One task is released, 0 for none; nothing more after an overflow.
-pub(crate) fn release(table: &[u32], queue: Queue, task: u32) -> Queue
-    requires { ⌜ Given (now table) × (queue .count ≤ 6) × Young (queue .jobs) ⌝ }
-    ensures { λ r. ⌜ r ≡ releasedBy (decode (now (table .entry))) task queue ⌝ }
+pub(crate) fn release(model: &[u32], queue: Queue, task: u32) -> Queue
+    requires { ⌜ RightTable (now model) × (queue .count ≤ 6) × Young (queue .jobs) ⌝ }
+    ensures { λ r. ⌜ r ≡ releasedBy (decode (now (model .entry))) task queue ⌝ }
 {
     if task == 0 {
         return queue;
@@ -259,7 +259,7 @@ pub(crate) fn release(table: &[u32], queue: Queue, task: u32) -> Queue
             overflowed: true,
         };
     }
-    let at = place_among(table, task, jobs, count);
+    let at = place_among(model, task, jobs, count);
     let next = insert(
         jobs,
         count,

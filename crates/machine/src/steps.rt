@@ -1,4 +1,4 @@
-// The start, a tick and an edge, with a table and a state that may be lent.
+// The start, a tick and an edge, with a right table and a state that may be lent.
 ghost use mathlib.Core.Path.{_≡_};
 ghost use mathlib.Core.List.{map};
 ghost use Prim.Native.Nat.{ℕ, suc, _+_, _-_, _≤_, _<_};
@@ -6,12 +6,12 @@ ghost use lib.Dec.{leb};
 ghost use lib.ListN.{getD, take};
 ghost use Rattle.meaning.specs.Machine.Step.{tick, edge, act};
 ghost use Rattle.meaning.specs.Machine.Run.{start};
-ghost use Rattle.meaning.specs.Text.ModelReader.{Given};
 ghost use Rattle.meaning.specs.Text.ModelTable.{decode};
+ghost use Rattle.model_table.specs.Right.{RightTable};
 ghost use Rattle.machine.specs.Stands.{clockMost, padded, stateOf, held};
-ghost use Rattle.machine.specs.Promise.{Said, said, told, answered, Usable, noState};
+ghost use Rattle.machine.specs.Promise.{Said, said, told, answered, noState};
 ghost use Rattle.machine.specs.ByCell.{allTo};
-ghost use Rattle.machine.specs.BySteps.{movedSaid};
+ghost use Rattle.machine.specs.BySteps.{Lent, movedSaid};
 use super::Job;
 use super::Outcome;
 use super::Reply;
@@ -70,16 +70,16 @@ fn within_end(clocks: [u32; 4]) -> bool
 }
 
 // An allowed tick, with the clocks after it: work and ages, the head that finishes leaves, and then the miss.
-fn ticked(table: &[u32], state: State, grown: [u32; 4]) -> Reply
-    requires { ⌜ Usable (now table) state × (grown ≡ padded 0 4 (map suc (take (decode (now table) .clocks) (state .clocks)))) ⌝ }
-    ensures { λ r. ⌜ said r ≡ told state (act (decode (now (table .entry))) (stateOf (decode (now (table .entry))) state) tick) ⌝ }
+fn ticked(model: &[u32], state: State, grown: [u32; 4]) -> Reply
+    requires { ⌜ Lent (now model) state × (grown ≡ padded 0 4 (map suc (take (decode (now model) .clocks) (state .clocks)))) ⌝ }
+    ensures { λ r. ⌜ said r ≡ told state (act (decode (now (model .entry))) (stateOf (decode (now (model .entry))) state) tick) ⌝ }
 {
     let jobs = state.jobs;
     let count = state.count as usize;
-    let last = finishes(table, jobs, count);
+    let last = finishes(model, jobs, count);
     let next = serve(jobs, count, last);
     let rest = left(count, last);
-    let late = first_late(table, next, rest);
+    let late = first_late(model, next, rest);
     let after = State {
         location: state.location,
         clocks: grown,
@@ -99,15 +99,15 @@ fn ticked(table: &[u32], state: State, grown: [u32; 4]) -> Reply
 }
 
 // A tick: 12 if the clocks after it break a limit, then 14.
-pub(crate) fn tick_given(table: &[u32], state: State) -> Reply
-    requires { ⌜ Usable (now table) state ⌝ }
-    ensures { λ r. ⌜ said r ≡ answered (decode (now (table .entry))) state tick ⌝ }
+pub(crate) fn tick_given(model: &[u32], state: State) -> Reply
+    requires { ⌜ Lent (now model) state ⌝ }
+    ensures { λ r. ⌜ said r ≡ answered (decode (now (model .entry))) state tick ⌝ }
 {
     let clocks = state.clocks;
-    let grown = grow(clocks, parts::clocks(table) as usize);
-    if limits_met(table, state.location, grown) {
+    let grown = grow(clocks, model_table::clocks(model) as usize);
+    if limits_met(model, state.location, grown) {
         if within_end(grown) {
-            return ticked(table, state, grown);
+            return ticked(model, state, grown);
         }
         return refused(state, 14);
     }
@@ -115,9 +115,9 @@ pub(crate) fn tick_given(table: &[u32], state: State) -> Reply
 }
 
 // An allowed edge to a location, with the clocks after its resets: the release of the location's task, which may overflow.
-fn moved(table: &[u32], state: State, to: u32, clocks: [u32; 4]) -> Reply
-    requires { ⌜ Usable (now table) state ⌝ }
-    ensures { λ r. ⌜ said r ≡ movedSaid (decode (now (table .entry))) state to clocks ⌝ }
+fn moved(model: &[u32], state: State, to: u32, clocks: [u32; 4]) -> Reply
+    requires { ⌜ Lent (now model) state ⌝ }
+    ensures { λ r. ⌜ said r ≡ movedSaid (decode (now (model .entry))) state to clocks ⌝ }
 {
     let jobs = state.jobs;
     let before = Queue {
@@ -125,7 +125,7 @@ fn moved(table: &[u32], state: State, to: u32, clocks: [u32; 4]) -> Reply
         count: state.count as usize,
         overflowed: false,
     };
-    let queue = release(table, before, parts::released(table, to));
+    let queue = release(model, before, model_table::released(model, to));
     if queue.overflowed {
         return Reply {
             outcome: Outcome::Overflowed,
@@ -146,31 +146,31 @@ fn moved(table: &[u32], state: State, to: u32, clocks: [u32; 4]) -> Reply
 }
 
 // An edge by its number: 12 if it isn't in the model, leaves another location, or its guard doesn't hold of the clocks before the resets.
-pub(crate) fn edge_given(table: &[u32], state: State, number: u32) -> Reply
-    requires { ⌜ Usable (now table) state ⌝ }
-    ensures { λ r. ⌜ said r ≡ answered (decode (now (table .entry))) state (edge number) ⌝ }
+pub(crate) fn edge_given(model: &[u32], state: State, number: u32) -> Reply
+    requires { ⌜ Lent (now model) state ⌝ }
+    ensures { λ r. ⌜ said r ≡ answered (decode (now (model .entry))) state (edge number) ⌝ }
 {
     if number == 0 {
         return refused(state, 12);
     }
-    if parts::counts::edges(table) < number {
+    if model_table::counts::edges(model) < number {
         return refused(state, 12);
     }
-    if parts::from(table, number) != state.location {
+    if model_table::from(model, number) != state.location {
         return refused(state, 12);
     }
     let clocks = state.clocks;
-    let after = reset(table, number, clocks);
-    if guard_holds(table, number, clocks) {
-        return moved(table, state, parts::to(table, number), after);
+    let after = reset(model, number, clocks);
+    if guard_holds(model, number, clocks) {
+        return moved(model, state, model_table::to(model, number), after);
     }
     refused(state, 12)
 }
 
 // The start: location 1, all clocks 0, and the job of location 1's task, if it has one.
-pub(crate) fn start_given(table: &[u32]) -> Reply
-    requires { ⌜ Given (now table) ⌝ }
-    ensures { λ r. ⌜ said r ≡ Said.went (held (start (decode (now (table .entry))))) ⌝ }
+pub fn start_given(model: &[u32]) -> Reply
+    requires { ⌜ RightTable (now model) ⌝ }
+    ensures { λ r. ⌜ said r ≡ Said.went (held (start (decode (now (model .entry))))) ⌝ }
 {
     let none = Job {
         task: 0,
@@ -182,7 +182,7 @@ pub(crate) fn start_given(table: &[u32]) -> Reply
         count: 0,
         overflowed: false,
     };
-    let queue = release(table, empty, parts::released(table, 1));
+    let queue = release(model, empty, model_table::released(model, 1));
     let jobs = queue.jobs;
     let state = State {
         location: 1,

@@ -14,11 +14,9 @@ use Rattle.meaning.specs.Model.{Model, taskAt}
 use Rattle.meaning.specs.Zones.Variables.{variables}
 use Rattle.meaning.specs.Zones.Zone.{Zone}
 use Rattle.meaning.specs.Zones.Steps.{Step}
-use Rattle.meaning.specs.Text.ModelReader.{Given}
 use Rattle.meaning.specs.Text.ModelTable.{decode, clocks}
 use Rattle.meaning.specs.Text.RightModel.{RightModel}
 use Rattle.meaning.proofs.Numbers.{shift-parts}
-use Rattle.meaning.proofs.Text.ModelTheorems.{given-right}
 use Rattle.meaning.proofs.Exact.Moves as M
 use Rattle.meaning.proofs.Exact.Reached.{sourceBounds, Source, planAt, homeAt}
 use Rattle.meaning.proofs.Exact.Smallest.{ApartBefore}
@@ -31,10 +29,11 @@ use Rattle.bounds.specs.Inner.{Shift}
 use Rattle.bounds.specs.declared.tightening.Tight.{Tight}
 use Rattle.bounds.proofs.Signed.{eq-read}
 use Rattle.bounds.proofs.Points.{finite?, entry-tight, entry-unbounded}
-use Rattle.parts.specs.Parts.{deadlineIn}
-use Rattle.parts.proofs.PartLaws.{clocks-is, deadline-is}
-use Rattle.matrix.proofs.RangeLaws.{clocks-small, deadline-small}
-use Rattle.zones.specs.declared.plan.Plan.{Plan}
+use Rattle.model_table.specs.Right.{RightTable}
+use Rattle.model_table.specs.Parts.{deadlineIn}
+use Rattle.model_table.proofs.PartLaws.{clocks-is, deadline-is}
+use Rattle.step_bounds.proofs.RangeLaws.{clocks-small, deadline-small}
+use Rattle.step_reach.specs.declared.plan.Plan.{Plan}
 use Rattle.shown.specs.Drawn.{Drawn, FirstLate}
 use Rattle.shown.proofs.StateLaws as S
 use Rattle.shown.proofs.StateLaws.{plan-many, plan-into, plan-size}
@@ -138,7 +137,7 @@ on-time-next table m from off tasks n k b h i q = go (decLt i k)
     go (yes l) = b i l
     go (no l) = let e : k ≡ i = omega arith in subst (OnTime table m from off tasks n) e h
 
-module _ (table : List ℕ) (g : Given table) (t : Tight) (p : Plan) (six : length (p .tasks) ≡ 6) where
+module _ (table : List ℕ) (g : RightTable table) (t : Tight) (p : Plan) (six : length (p .tasks) ≡ 6) where
   module _ (z : Zone) (st : Step) (d : Drawn (decode table) z st t p) where
     pub count-is : length (homeAt (decode table) z st .order) ≡ p .count
     count-is = ap length (order-is (decode table) z st t p d) ∙ length-take-le (p .count) (p .tasks) (omega (arith, d .planned .few))
@@ -154,8 +153,8 @@ module _ (table : List ℕ) (g : Given table) (t : Tight) (p : Plan) (six : leng
       omega (arith, d .planned .few, clocks-small table g),
       from-low (decode table) z st t p d (clocks table + 2 + 2 * k) (age-low k h),
       from-low (decode table) z st t p d 0 (omega (arith, age-low k h)),
-      off-small (decode table) z st t p d (given-right table g) (clocks table + 2 + 2 * k) (age-low k h),
-      off-small (decode table) z st t p d (given-right table g) 0 (omega (arith, age-low k h)),
+      off-small (decode table) z st t p d (g .right) (clocks table + 2 + 2 * k) (age-low k h),
+      off-small (decode table) z st t p d (g .right) 0 (omega (arith, age-low k h)),
     )
 
     -- D of the task at position k + 1

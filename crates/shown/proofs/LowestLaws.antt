@@ -24,8 +24,8 @@ use Rattle.bounds.specs.Range.{Ready}
 use Rattle.bounds.specs.Results.{Smallest}
 use Rattle.bounds.specs.declared.tightening.Tight.{Tight}
 use Rattle.bounds.proofs.Points.{low, low-sol}
-use Rattle.matrix.specs.Narrowed.{boundSize, Narrowed, Narrows}
-use Rattle.zones.specs.declared.plan.Plan.{Plan}
+use Rattle.step_bounds.specs.Narrowed.{boundSize, Narrowed, Narrows}
+use Rattle.step_reach.specs.declared.plan.Plan.{Plan}
 use Rattle.shown.specs.Drawn.{Drawn}
 use Rattle.shown.specs.Moving.{ShownBy}
 

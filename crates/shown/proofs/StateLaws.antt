@@ -30,9 +30,9 @@ use Rattle.bounds.specs.Images.{var}
 use Rattle.machine.specs.Stands.{cellOf, noJob, padded, cellsOf, held}
 use Rattle.machine.specs.declared.Job.{Job}
 use Rattle.machine.proofs.Arrays.{padded-is}
-use Rattle.zones.specs.declared.plan.Plan.{Plan}
-use Rattle.zones.specs.Plans.{homeOf, Planned}
-use Rattle.zones.proofs.ReplyLaws.{variables-few, head-small}
+use Rattle.step_reach.specs.declared.plan.Plan.{Plan}
+use Rattle.step_reach.specs.Plans.{homeOf, Planned}
+use Rattle.step_reach.proofs.ReplyLaws.{variables-few, head-small}
 use Rattle.shown.specs.Moving.{Movable, Moved, Rising, cellAt}
 
 -- ---- an array of n cells that is written from the first cell on

@@ -11,7 +11,7 @@ use Rattle.meaning.specs.Numbers.{over, under}
 use Rattle.meaning.proofs.Numbers.{shift, shift-parts, over-neg, under-neg, parts-one}
 use Rattle.bounds.specs.Matrix.{Size}
 use Rattle.bounds.proofs.Signed.{rd, at, eq-read, sum-law, diff-law, fits-make, abs-law}
-use Rattle.matrix.specs.Narrowed.{boundSize}
+use Rattle.step_bounds.specs.Narrowed.{boundSize}
 
 pub small-fits : (c : ℤ) → Size c 100000 → SFits w32 c
 small-fits c s = fits-make (omega (arith, s .high)) (omega (arith, s .low))

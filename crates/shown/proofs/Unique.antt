@@ -18,7 +18,7 @@ use Rattle.meaning.proofs.Exact.Smallest.{movedState, shown-least, apart-least}
 use Rattle.bounds.specs.declared.tightening.Tight.{Tight}
 use Rattle.machine.specs.declared.State.{State}
 use Rattle.machine.specs.Stands.{held}
-use Rattle.zones.specs.declared.plan.Plan.{Plan}
+use Rattle.step_reach.specs.declared.plan.Plan.{Plan}
 use Rattle.shown.specs.Drawn.{Drawn, DrawnBy, ApartBy, SmallestIs, SmallestApart, FirstLate}
 use Rattle.shown.proofs.StateLaws.{plan-many}
 

@@ -17,9 +17,9 @@ use Rattle.meaning.proofs.Exact.Faulty.{LateBefore}
 use Rattle.bounds.specs.declared.tightening.Tight.{Tight}
 use Rattle.machine.specs.declared.State.{State}
 use Rattle.machine.specs.Stands.{held}
-use Rattle.matrix.specs.Narrowed.{Narrowed}
-use Rattle.zones.specs.declared.plan.Plan.{Plan}
-use Rattle.zones.specs.Plans.{Planned}
+use Rattle.step_bounds.specs.Narrowed.{Narrowed}
+use Rattle.step_reach.specs.declared.plan.Plan.{Plan}
+use Rattle.step_reach.specs.Plans.{Planned}
 
 -- t has exactly the valuations of the states of z that take st, there is one, and p is the plan of the step
 pub record Drawn (m : Model) (z : Zone) (st : Step) (t : Tight) (p : Plan) : Type 0 where

@@ -14,8 +14,8 @@ use Rattle.meaning.proofs.Exact.Reached.{Source}
 use Rattle.bounds.specs.Matrix.{ent, Size}
 use Rattle.bounds.specs.Images.{var, Image}
 use Rattle.machine.specs.declared.Job.{Job}
-use Rattle.zones.specs.declared.plan.Plan.{Plan}
-use Rattle.zones.specs.Plans.{Planned}
+use Rattle.step_reach.specs.declared.plan.Plan.{Plan}
+use Rattle.step_reach.specs.Plans.{Planned}
 
 -- each of the first n new variables comes from one that is there, all numbers are small, and none falls below 0
 pub record Movable (n : ℕ) (from : List ℕ) (off : List ℤ) (x : List ℕ) : Type 0 where

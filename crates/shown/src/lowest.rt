@@ -2,40 +2,40 @@
 ghost use Prim.Native.Nat.{_<_};
 ghost use Rattle.meaning.specs.Zones.Zone.{Zone};
 ghost use Rattle.meaning.specs.Zones.Steps.{Step};
-ghost use Rattle.meaning.specs.Text.ModelReader.{Given};
 ghost use Rattle.meaning.specs.Text.ModelTable.{decode};
+ghost use Rattle.model_table.specs.Right.{RightTable};
 ghost use Rattle.bounds.specs.Matrix.{Size};
 ghost use Rattle.shown.specs.Drawn.{Drawn, DrawnBy, ApartBy, SmallestIs, SmallestApart};
 use crate::state::shown_state;
 use bounds::Tight;
 use bounds::least;
 use machine::State;
-use matrix::narrow;
-use zones::Plan;
+use step_bounds::narrow;
+use step_reach::Plan;
 
 // The smallest of all.
-pub fn smallest(table: &[u32], t: Tight, plan: Plan) -> State
-    requires { ⌜ Given (now table) ⌝ }
-    requires { ⌜ DrawnBy (decode (now table)) t plan ⌝ }
-    ensures { λ r. ⌜ ((z : Zone) (st : Step) → Drawn (decode (now (table .entry))) z st t plan → SmallestIs (decode (now (table .entry))) z st r) ⌝ }
+pub fn smallest(model: &[u32], t: Tight, plan: Plan) -> State
+    requires { ⌜ RightTable (now model) ⌝ }
+    requires { ⌜ DrawnBy (decode (now model)) t plan ⌝ }
+    ensures { λ r. ⌜ ((z : Zone) (st : Step) → Drawn (decode (now (model .entry))) z st t plan → SmallestIs (decode (now (model .entry))) z st r) ⌝ }
 {
     let m = t.m;
     let x = least(&m, 17);
-    shown_state(table, plan, x)
+    shown_state(model, plan, x)
 }
 
 // The smallest of those in which variable i is at least c above variable j, after the step.
-pub fn smallest_apart(table: &[u32], t: Tight, plan: Plan, i: usize, j: usize, c: i32) -> State
-    requires { ⌜ Given (now table) ⌝ }
+pub fn smallest_apart(model: &[u32], t: Tight, plan: Plan, i: usize, j: usize, c: i32) -> State
+    requires { ⌜ RightTable (now model) ⌝ }
     requires { ⌜ (i < plan .variables) × (j < plan .variables) ⌝ }
     requires { ⌜ Size c 100000 ⌝ }
-    requires { ⌜ ApartBy (decode (now table)) t plan i j c ⌝ }
-    ensures { λ r. ⌜ ((z : Zone) (st : Step) → Drawn (decode (now (table .entry))) z st t plan → SmallestApart (decode (now (table .entry))) z st i j c r) ⌝ }
+    requires { ⌜ ApartBy (decode (now model)) t plan i j c ⌝ }
+    ensures { λ r. ⌜ ((z : Zone) (st : Step) → Drawn (decode (now (model .entry))) z st t plan → SmallestApart (decode (now (model .entry))) z st i j c r) ⌝ }
 {
     let from = plan.from;
     let off = plan.off;
     let apart = narrow(t, from[j], from[i], off[i] - off[j] - c);
     let m = apart.m;
     let x = least(&m, 17);
-    shown_state(table, plan, x)
+    shown_state(model, plan, x)
 }

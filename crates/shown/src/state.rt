@@ -5,24 +5,24 @@ ghost use lib.ListN.{take};
 ghost use Rattle.meaning.specs.Numbers.{over, under};
 ghost use Rattle.meaning.specs.Zones.Zone.{Zone};
 ghost use Rattle.meaning.specs.Zones.Steps.{Step};
-ghost use Rattle.meaning.specs.Text.ModelReader.{Given};
 ghost use Rattle.meaning.specs.Text.ModelTable.{decode};
 ghost use Rattle.meaning.proofs.Lists.{tabFrom};
 ghost use Rattle.meaning.proofs.Exact.Valuations.{slots, jobsAt, RangedZone};
 ghost use Rattle.meaning.proofs.Exact.Loops.{sumAhead};
 ghost use Rattle.meaning.proofs.Exact.Reached.{Source};
 ghost use Rattle.meaning.proofs.Exact.Smallest.{movedState};
+ghost use Rattle.model_table.specs.Right.{RightTable};
 ghost use Rattle.bounds.specs.Matrix.{Size};
 ghost use Rattle.bounds.specs.Images.{var};
 ghost use Rattle.machine.specs.Stands.{padded, cellsOf, held};
-ghost use Rattle.zones.specs.Plans.{Planned};
+ghost use Rattle.step_reach.specs.Plans.{Planned};
 ghost use Rattle.shown.specs.Moving.{Movable, Moved, Rising, cellAt, ShownBy};
 use machine::Job;
 use machine::State;
-use matrix::sum_ahead;
-use matrix::sum_at;
-use parts::clocks;
-use zones::Plan;
+use model_table::clocks;
+use step_bounds::sum_ahead;
+use step_bounds::sum_at;
+use step_reach::Plan;
 
 // One value, moved: what is added may be below 0, the value after it is not.
 fn moved_value(value: u32, added: i32) -> u32
@@ -97,10 +97,10 @@ fn jobs_of(v: [u32; 17], n: usize, tasks: [u32; 6], count: usize) -> [Job; 6]
 }
 
 // The state after the step of the valuation x from before it.
-pub(crate) fn shown_state(table: &[u32], plan: Plan, x: [u32; 17]) -> State
-    requires { ⌜ Given (now table) ⌝ }
-    requires { ⌜ ShownBy (decode (now table)) plan x ⌝ }
-    ensures { λ r. ⌜ ((z : Zone) (st : Step) → RangedZone (decode (now (table .entry))) z → Planned (decode (now (table .entry))) z st plan → Source (decode (now (table .entry))) z st (var x) → r ≡ held (movedState (decode (now (table .entry))) z st (var x))) ⌝ }
+pub(crate) fn shown_state(model: &[u32], plan: Plan, x: [u32; 17]) -> State
+    requires { ⌜ RightTable (now model) ⌝ }
+    requires { ⌜ ShownBy (decode (now model)) plan x ⌝ }
+    ensures { λ r. ⌜ ((z : Zone) (st : Step) → RangedZone (decode (now (model .entry))) z → Planned (decode (now (model .entry))) z st plan → Source (decode (now (model .entry))) z st (var x) → r ≡ held (movedState (decode (now (model .entry))) z st (var x))) ⌝ }
 {
     let location = plan.location;
     let tasks = plan.tasks;
@@ -108,7 +108,7 @@ pub(crate) fn shown_state(table: &[u32], plan: Plan, x: [u32; 17]) -> State
     let variables = plan.variables;
     let from = plan.from;
     let off = plan.off;
-    let n = clocks(table) as usize;
+    let n = clocks(model) as usize;
     let v = moved(variables, from, off, x);
     let values = clocks_of(v, n);
     let jobs = jobs_of(v, n, tasks, count as usize);

@@ -8,12 +8,12 @@ ghost use Rattle.meaning.specs.Lists.{elem};
 ghost use Rattle.meaning.specs.Model.{Model};
 ghost use Rattle.meaning.specs.Zones.Proper.{fits};
 ghost use Rattle.meaning.specs.Text.ModelTable.{decode, edges};
-ghost use Rattle.meaning.specs.Text.ModelReader.{Given};
 ghost use Rattle.meaning.specs.Text.ProposalTable.{size};
-ghost use Rattle.parts.specs.Parts.{edgeOf};
+ghost use Rattle.model_table.specs.Right.{RightTable};
+ghost use Rattle.model_table.specs.Parts.{edgeOf};
 ghost use Rattle.steps.specs.Counted.{numbersIn, noneAbove, headIn, ShareIs, StepsAre};
-use parts::cells;
-use parts::counts;
+use model_table::cells;
+use model_table::counts;
 
 // What an edge adds to the steps of a zone: how many places, and whether the claim of the first has to be 0.
 pub struct Share {
@@ -75,16 +75,16 @@ pub fn up_to_last(table: &[u32], from: usize, n: usize, last: u32) -> bool
 
 // What an edge adds to the steps of zone + 1, whose queue has len tasks.
 pub fn share_of(model: &[u32], table: &[u32], zone: usize, len: usize, edge: u32) -> Share
-    requires { ⌜ Given (now model) × (zone < 48) × (len ≤ 6) ⌝ }
+    requires { ⌜ RightTable (now model) × (zone < 48) × (len ≤ 6) ⌝ }
     ensures { λ r. ⌜ ShareIs (decode (now (model .entry))) (headIn (now (table .entry)) zone len) (edgeOf (now (model .entry)) edge) r ⌝ }
 {
-    if parts::from(model, edge) != cells::less_one(cells::cell(table, 8 * zone)) {
+    if model_table::from(model, edge) != cells::less_one(cells::cell(table, 8 * zone)) {
         return Share {
             places: 0,
             zero: false,
         };
     }
-    let task = parts::released(model, parts::to(model, edge));
+    let task = model_table::released(model, model_table::to(model, edge));
     if task == 0 {
         return Share {
             places: 1,
@@ -116,7 +116,7 @@ fn held(sofar: bool, due: bool, kept: u32) -> bool
 
 // The steps of zone + 1, whose queue has len tasks, with its claims kept from cell `at` on.
 pub fn walk(model: &[u32], table: &[u32], zone: usize, len: usize, at: usize) -> Steps
-    requires { ⌜ Given (now model) × (zone < 48) × (len ≤ 6) × (at ≤ size) ⌝ }
+    requires { ⌜ RightTable (now model) × (zone < 48) × (len ≤ 6) × (at ≤ size) ⌝ }
     ensures { λ r. ⌜ StepsAre (decode (now (model .entry))) (headIn (now (table .entry)) zone len) (now (table .entry)) at r ⌝ }
 {
     let n = counts::edges(model);

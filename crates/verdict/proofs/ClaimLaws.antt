@@ -28,9 +28,9 @@ use Rattle.meaning.proofs.Text.BoundLaws.{over-of, under-of}
 use Rattle.meaning.proofs.Exact.Bounds.{bound, Ranged}
 use Rattle.meaning.proofs.Exact.Faulty.{Writes}
 use Rattle.bounds.specs.Claims.{cell, Breaks, Cells}
-use Rattle.zonetable.specs.Sound.{zonesIn}
-use Rattle.zonetable.proofs.SoundGiven.{zones-few}
-use Rattle.zonetable.proofs.ZoneParts.{given-is-sound, given-small}
+use Rattle.zone_table.specs.Sound.{zonesIn}
+use Rattle.zone_table.proofs.SoundGiven.{zones-few}
+use Rattle.zone_table.proofs.ZoneParts.{given-is-sound, given-small}
 
 -- where the bounds of zone n stand
 abbrev pub startOf : ℕ → ℕ

@@ -16,15 +16,15 @@ use Rattle.meaning.proofs.Exact.Reached.{sourceBounds}
 use Rattle.bounds.specs.declared.tightening.Tight.{Tight}
 use Rattle.zone.specs.declared.Zone.{Zone}
 use Rattle.zone.specs.Stands.{zoneOf, Lendable}
-use Rattle.zonetable.specs.Read.{withoutClaims}
-use Rattle.matrix.specs.declared.moves.Move.{Move}
-use Rattle.matrix.specs.Moves.{Listed}
-use Rattle.matrix.specs.Narrowed.{Narrowed, Narrows}
-use Rattle.matrix.proofs.NarrowLaws.{narrowed-then}
-use Rattle.matrix.proofs.RangeLaws.{lent-ranged}
-use Rattle.zones.specs.declared.plan.Plan.{Plan}
-use Rattle.zones.specs.Plans.{Planned}
-use Rattle.zones.proofs.ReplyLaws.{variables-few}
+use Rattle.zone_table.specs.Read.{withoutClaims}
+use Rattle.step_bounds.specs.declared.moves.Move.{Move}
+use Rattle.step_bounds.specs.Moves.{Listed}
+use Rattle.step_bounds.specs.Narrowed.{Narrowed, Narrows}
+use Rattle.step_bounds.proofs.NarrowLaws.{narrowed-then}
+use Rattle.step_bounds.proofs.RangeLaws.{lent-ranged}
+use Rattle.step_reach.specs.declared.plan.Plan.{Plan}
+use Rattle.step_reach.specs.Plans.{Planned}
+use Rattle.step_reach.proofs.ReplyLaws.{variables-few}
 use Rattle.shown.specs.Drawn.{Drawn}
 use Rattle.verdict.specs.Judged.{following, clear, Judged}
 use Rattle.verdict.proofs.JudgeLaws.{judged-none}

@@ -15,9 +15,9 @@ use Rattle.meaning.specs.Text.RightModel.{RightModel}
 use Rattle.meaning.specs.Text.ProposalReader as P
 use Rattle.meaning.specs.Text.ProposalTable.{orderSlot, zoneIn}
 use Rattle.meaning.proofs.Zones.Home.{mkHome}
-use Rattle.zonetable.specs.Sound.{zonesIn, queueIn}
-use Rattle.zonetable.specs.Read.{taskAt}
-use Rattle.zonetable.proofs.ZoneParts.{location-is, queue-is, task-is}
+use Rattle.zone_table.specs.Sound.{zonesIn, queueIn}
+use Rattle.zone_table.specs.Read.{taskAt}
+use Rattle.zone_table.proofs.ZoneParts.{location-is, queue-is, task-is}
 use Rattle.verdict.specs.Tests.{SameHome}
 
 getD-some : (l : List ℕ) (k d x : ℕ) → getElem? l k ≡ some x → getD l k d ≡ x

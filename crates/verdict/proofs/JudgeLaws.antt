@@ -43,13 +43,13 @@ use Rattle.bounds.specs.Results.{Met, FirstBroken}
 use Rattle.bounds.specs.declared.tightening.Tight.{Tight}
 use Rattle.machine.specs.declared.State.{State}
 use Rattle.machine.specs.Promise.{noState}
-use Rattle.matrix.specs.Narrowed.{Narrowed}
-use Rattle.matrix.proofs.RangeLaws.{right-ranged}
-use Rattle.zones.specs.declared.plan.Plan.{Plan}
-use Rattle.zones.specs.Plans as P
-use Rattle.zones.proofs.ReplyLaws.{many-is, order-is, solves, source, image, image-back}
-use Rattle.zonetable.specs.Sound.{zonesIn}
-use Rattle.zonetable.proofs.ZoneParts.{zone-is}
+use Rattle.step_bounds.specs.Narrowed.{Narrowed}
+use Rattle.step_bounds.proofs.RangeLaws.{right-ranged}
+use Rattle.step_reach.specs.declared.plan.Plan.{Plan}
+use Rattle.step_reach.specs.Plans as P
+use Rattle.step_reach.proofs.ReplyLaws.{many-is, order-is, solves, source, image, image-back}
+use Rattle.zone_table.specs.Sound.{zonesIn}
+use Rattle.zone_table.proofs.ZoneParts.{zone-is}
 use Rattle.shown.specs.Drawn.{Drawn, ApartBy, SmallestIs, SmallestApart, FirstLate}
 use Rattle.verdict.specs.declared.answer.Fault.the-variants.{Nothing, Late, Over, Unclaimed, Elsewhere}
 use Rattle.verdict.specs.declared.answer.Fault.the-variants as W

@@ -22,17 +22,16 @@ use Rattle.meaning.specs.Text.RightModel.{RightModel}
 use Rattle.meaning.specs.Text.ProposalReader as reader
 use Rattle.meaning.specs.Text.ProposalTable as table
 use Rattle.meaning.specs.Text.ProposalTable.{zoneIn}
-use Rattle.meaning.specs.Text.ModelReader.{Given}
 use Rattle.meaning.specs.Text.ModelTable.{decode, clocks}
-use Rattle.meaning.proofs.Text.ModelTheorems.{given-right}
 use Rattle.meaning.proofs.Exact.Reached.{stepOverflows, homeAt}
 use Rattle.meaning.proofs.Exact.Smallest.{ApartBefore}
 use Rattle.meaning.proofs.Exact.Late.{ageAt}
 use Rattle.meaning.specs.Text.Ranges.{boundMost}
 use Rattle.meaning.proofs.Numbers.{sum-parts, parts-one}
 use Rattle.meaning.proofs.Text.BoundLaws.{over-of, under-of}
-use Rattle.parts.specs.Parts.{deadlineIn}
-use Rattle.parts.proofs.PartLaws.{clocks-is}
+use Rattle.model_table.specs.Right.{RightTable}
+use Rattle.model_table.specs.Parts.{deadlineIn}
+use Rattle.model_table.proofs.PartLaws.{clocks-is}
 use Rattle.bounds.specs.Matrix.{ent, at, Size, Entries, Closed}
 use Rattle.bounds.specs.Images.{Map, Maps}
 use Rattle.bounds.specs.Images as I
@@ -42,13 +41,13 @@ use Rattle.bounds.specs.Inner.{Claimed}
 use Rattle.bounds.proofs.Signed.{rd, back, fits-make, sum-fits}
 use Rattle.bounds.specs.declared.tightening.Tight.{Tight}
 use Rattle.machine.specs.declared.State.{State}
-use Rattle.matrix.proofs.RangeLaws.{right-ranged, deadline-small}
-use Rattle.zones.specs.declared.plan.Plan.{Plan}
-use Rattle.zones.specs.Plans as P
-use Rattle.zones.proofs.ReplyLaws.{variables-few, head-small, map-of, maps-of}
-use Rattle.zonetable.specs.Sound.{zonesIn}
-use Rattle.zonetable.proofs.SoundGiven.{zones-few}
-use Rattle.zonetable.proofs.ZoneParts.{zone-is}
+use Rattle.step_bounds.proofs.RangeLaws.{right-ranged, deadline-small}
+use Rattle.step_reach.specs.declared.plan.Plan.{Plan}
+use Rattle.step_reach.specs.Plans as P
+use Rattle.step_reach.proofs.ReplyLaws.{variables-few, head-small, map-of, maps-of}
+use Rattle.zone_table.specs.Sound.{zonesIn}
+use Rattle.zone_table.proofs.SoundGiven.{zones-few}
+use Rattle.zone_table.proofs.ZoneParts.{zone-is}
 use Rattle.shown.specs.Drawn.{Drawn, DrawnBy, ApartBy, SmallestIs, SmallestApart, FirstLate}
 use Rattle.shown.proofs.LateLaws.{count-is, age-low, D-is}
 use Rattle.verdict.specs.declared.answer.Fault.{Fault}
@@ -64,7 +63,7 @@ use Rattle.verdict.proofs.HomeLaws.{same-home-iff}
 
 -- ---- kind 1
 
-module _ (t : List ℕ) (g : Given t) (a : Tight) (p : Plan) (six : length (p .tasks) ≡ 6) where
+module _ (t : List ℕ) (g : RightTable t) (a : Tight) (p : Plan) (six : length (p .tasks) ≡ 6) where
   -- where the age of the job behind k others stands
   age-is : (k : ℕ) → ageAt (decode t) k ≡ clocks t + 2 + 2 * k
   age-is k = omega (arith, clocks-is t g)
@@ -102,7 +101,7 @@ module _ (t : List ℕ) (g : Given t) (a : Tight) (p : Plan) (six : length (p .t
           → (q : Proposal) (n x c : ℕ) (z : Zone) (st : Step) → Drawn (decode t) z st a p → stepOverflows (decode t) (homeOfZone z) st ≡ false
           → FirstLate (decode t) z st late → Judged (decode t) q (following n x z st c) (found (Late late) r)
       late-judged r s q n x c z st w o f =
-          judged-late (decode t) (given-right t g) q (record { number = n; place = x; zone = z; step = st; claim = c }) a p w o late f (late - 1) (omega (arith, l .some)) r
+          judged-late (decode t) (g .right) q (record { number = n; place = x; zone = z; step = st; claim = c }) a p w o late f (late - 1) (omega (arith, l .some)) r
           (subst (λ (i : ℕ). SmallestApart (decode t) z st i 0 (pos (taskAt (decode t) (getD (homeAt (decode t) z st .order) (late - 1) 0) .D)) r) (sym (age-is (late - 1)))
           (subst (λ (v : ℤ). SmallestApart (decode t) z st (clocks t + 2 + 2 * (late - 1)) 0 v r) (sym (D-here z st w)) (s z st w)))
 
@@ -145,13 +144,13 @@ module _ (u : List ℕ) (start i j : ℕ) (most : cell u start i j ≤ 64001) (s
 
 -- ---- the claimed zone
 
-module _ (t : List ℕ) (g : Given t) (a : Tight) (p : Plan) (six : length (p .tasks) ≡ 6) (u : List ℕ) (h : reader.Given (decode t) u) (claim : ℕ) (low : 1 ≤ claim)
+module _ (t : List ℕ) (g : RightTable t) (a : Tight) (p : Plan) (six : length (p .tasks) ≡ 6) (u : List ℕ) (h : reader.Given (decode t) u) (claim : ℕ) (low : 1 ≤ claim)
     (high : claim ≤ zonesIn u) where
   abbrev m : Model
   m = decode t
 
   right : RightModel m
-  right = given-right t g
+  right = g .right
 
   -- the obligation of a step with this claim
   abbrev follow : ℕ → ℕ → Zone → Step → Follow

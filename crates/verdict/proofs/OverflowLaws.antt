@@ -13,16 +13,16 @@ use Rattle.meaning.specs.Model.{locationAt, released}
 use Rattle.meaning.specs.Machine.Release.{overflowsAny}
 use Rattle.meaning.specs.Zones.Zone.{Zone}
 use Rattle.meaning.specs.Zones.Reached.{homeOfZone}
-use Rattle.meaning.specs.Text.ModelReader.{Given}
 use Rattle.meaning.specs.Text.ModelTable.{decode}
 use Rattle.meaning.proofs.Exact.Reached.{edgeOverflows, stepOverflows}
-use Rattle.parts.specs.Parts.{edgeOf}
-use Rattle.parts.proofs.PartLaws.{edge-is}
-use Rattle.matrix.specs.Moves.{stepOf, Listed}
-use Rattle.matrix.specs.declared.moves.Move.the-variants as Moved
-use Rattle.matrix.proofs.MoveLaws.{Leaves, taskBy, task-by, released-none, released-one, over-one, listed-bare, listed-placed}
+use Rattle.model_table.specs.Right.{RightTable}
+use Rattle.model_table.specs.Parts.{edgeOf}
+use Rattle.model_table.proofs.PartLaws.{edge-is}
+use Rattle.step_bounds.specs.Moves.{stepOf, Listed}
+use Rattle.step_bounds.specs.declared.moves.Move.the-variants as Moved
+use Rattle.step_bounds.proofs.MoveLaws.{Leaves, taskBy, task-by, released-none, released-one, over-one, listed-bare, listed-placed}
 
-module _ (t : List ℕ) (g : Given t) (z : Zone) (k : ℕ) where
+module _ (t : List ℕ) (g : RightTable t) (z : Zone) (k : ℕ) where
   -- what an edge that leaves the zone's location releases
   leaves-over : Leaves t (z .location) k
       → stepOverflows (decode t) (homeOfZone z) (stepOf (Moved.Edge k)) ≡ overflowsAny (decode t) (released (decode t) (edgeOf t k)) (z .order)

@@ -20,16 +20,16 @@ use Rattle.meaning.specs.Text.ProposalTable.{zoneIn, decode}
 use Rattle.meaning.proofs.Text.Keyed.{each-nth}
 use Rattle.meaning.proofs.Text.ProposalTheorems.{proposal-given-right}
 use Rattle.steps.specs.Counted.{numbersIn, headIn}
-use Rattle.matrix.specs.Moves.{stepOf, Listed}
-use Rattle.matrix.specs.declared.moves.Move.{Move}
+use Rattle.step_bounds.specs.Moves.{stepOf, Listed}
+use Rattle.step_bounds.specs.declared.moves.Move.{Move}
 use Rattle.listing.specs.StepAt.{StepAt}
 use Rattle.listing.proofs.StepLaws.{step-at-listed}
 use Rattle.zone.specs.declared.Zone.{Zone}
 use Rattle.zone.specs.Stands.{zoneOf}
-use Rattle.zonetable.specs.Sound.{zonesIn, queueIn, SoundZone}
-use Rattle.zonetable.specs.Read.{claimsAt, claimAt, ZoneRead, withoutClaims}
-use Rattle.zonetable.proofs.TestLaws.{order-row}
-use Rattle.zonetable.proofs.ZoneParts.{given-is-sound, zone-is, claim-is, read-is}
+use Rattle.zone_table.specs.Sound.{zonesIn, queueIn, SoundZone}
+use Rattle.zone_table.specs.Read.{claimsAt, claimAt, ZoneRead, withoutClaims}
+use Rattle.zone_table.proofs.TestLaws.{order-row}
+use Rattle.zone_table.proofs.ZoneParts.{given-is-sound, zone-is, claim-is, read-is}
 use Rattle.verdict.specs.declared.answer.Found.{Found}
 use Rattle.verdict.specs.Judged.{following, AtPlace, Judged}
 

@@ -15,16 +15,15 @@ use Rattle.meaning.specs.Zones.Variables.{variables}
 use Rattle.meaning.specs.Zones.Reached.{Home, homeOf, homeOfZone}
 use Rattle.meaning.specs.Check.Obligations.{starts}
 use Rattle.meaning.specs.Text.RightModel.{RightModel}
-use Rattle.meaning.specs.Text.ModelReader.{Given}
 use Rattle.meaning.specs.Text.ModelTable.{clocks, decode}
 use Rattle.meaning.specs.Text.ProposalReader as reader
 use Rattle.meaning.specs.Text.ProposalTable as table
 use Rattle.meaning.specs.Text.ProposalTable.{zoneIn}
 use Rattle.meaning.proofs.Tests.{never}
 use Rattle.meaning.proofs.Zones.Home.{mkHome}
-use Rattle.meaning.proofs.Text.ModelTheorems.{given-right}
-use Rattle.parts.specs.Parts.{releasedIn}
-use Rattle.parts.proofs.PartLaws.{released-is, clocks-is}
+use Rattle.model_table.specs.Right.{RightTable}
+use Rattle.model_table.specs.Parts.{releasedIn}
+use Rattle.model_table.proofs.PartLaws.{released-is, clocks-is}
 use Rattle.bounds.specs.Claims.{Cells}
 use Rattle.bounds.specs.Results.{FirstBroken}
 use Rattle.machine.specs.declared.State.{State}
@@ -32,8 +31,8 @@ use Rattle.machine.specs.declared.Reply.{Reply}
 use Rattle.machine.specs.declared.Outcome.{Outcome}
 use Rattle.machine.specs.declared.Outcome.the-variants.{Went, Missed, Overflowed, Refused}
 use Rattle.machine.specs.Stands.{held}
-use Rattle.machine.specs.Promise.{noState, Said, went, missed, overflow, refused, saidBy, Started}
-use Rattle.zonetable.proofs.ZoneParts.{given-is-sound}
+use Rattle.machine.specs.Promise.{noState, Said, went, missed, overflow, refused, said, saidBy}
+use Rattle.zone_table.proofs.ZoneParts.{given-is-sound}
 use Rattle.verdict.specs.declared.answer.Fault.the-variants.{Nothing, Elsewhere}
 use Rattle.verdict.specs.declared.answer.Fault.the-variants as W
 use Rattle.verdict.specs.Judged.{Judged}
@@ -57,8 +56,8 @@ said-state (Missed k) s = refl
 said-state Overflowed s = refl
 said-state (Refused n) s = refl
 
-pub started-state : (t : List ℕ) (r : Reply) → Given t → Started t r → r .state ≡ held (start (decode t))
-started-state t r g w = sym (said-state (r .outcome) (r .state)) ∙ ap stateSaid (w .usable g)
+pub started-state : (t : List ℕ) (r : Reply) → said r ≡ went (held (start (decode t))) → r .state ≡ held (start (decode t))
+started-state t r w = sym (said-state (r .outcome) (r .state)) ∙ ap stateSaid w
 
 -- ---- the queue of the start
 
@@ -76,9 +75,9 @@ pub counted-by : {A B : Type 0} (new count : ℕ) → (A → new ≡ 0) → (B �
 counted-by new count a b (inl e) = record { few = omega (arith, e .1); nothing = λ _. e .1; one = λ h. absurd (h (a (e .0))) }
 counted-by new count a b (inr e) = record { few = omega (arith, e .1); nothing = λ h. absurd (b (e .0) h); one = λ _. e .1 }
 
-module _ (t : List ℕ) (g : Given t) (u : List ℕ) (h : reader.Given (decode t) u) where
+module _ (t : List ℕ) (g : RightTable t) (u : List ℕ) (h : reader.Given (decode t) u) where
   right : RightModel (decode t)
-  right = given-right t g
+  right = g .right
 
   some-zone : 1 ≤ length (table.decode u .zones)
   some-zone = given-is-sound (decode t) right u h .some
@@ -109,11 +108,11 @@ module _ (t : List ℕ) (g : Given t) (u : List ℕ) (h : reader.Given (decode t
       pub at-home : not b ≡ false → homeOf (start (decode t)) ≡ homeOfZone (zoneIn u 0)
       at-home q = home-is ∙ same .0 (d .0 (not-false b q))
 
-      pub start-away : not b ≡ true → (r : Reply) → Started t r → Judged (decode t) (table.decode u) starts (found Elsewhere (r .state))
+      pub start-away : not b ≡ true → (r : Reply) → said r ≡ went (held (start (decode t))) → Judged (decode t) (table.decode u) starts (found Elsewhere (r .state))
       start-away q r s =
           judged-start-elsewhere (decode t) right u h
           (λ z. never (d .1 (same .1 (sym home-is ∙ z))) (not-true b q))
-          (r .state) (started-state t r g s)
+          (r .state) (started-state t r s)
 
       -- and what that of its bounds says
       module _ (q : not b ≡ false) (n : ℕ) (all : n ≡ 1 + clocks t + 2 * count) (yes : Bool) (i j : ℕ)
@@ -121,8 +120,8 @@ module _ (t : List ℕ) (g : Given t) (u : List ℕ) (h : reader.Given (decode t
         few : n ≤ 17
         few = omega (arith, w .few, clocks-most)
 
-        pub start-broken : yes ≡ true → (r : Reply) → Started t r → Judged (decode t) (table.decode u) starts (found (W.Breaks i j) (r .state))
-        start-broken y r s = judged-start-breaks (decode t) right u h (at-home q) n (many-is n all) few yes i j k y (r .state) (started-state t r g s)
+        pub start-broken : yes ≡ true → (r : Reply) → said r ≡ went (held (start (decode t))) → Judged (decode t) (table.decode u) starts (found (W.Breaks i j) (r .state))
+        start-broken y r s = judged-start-breaks (decode t) right u h (at-home q) n (many-is n all) few yes i j k y (r .state) (started-state t r s)
 
         pub start-clear : yes ≡ false → Judged (decode t) (table.decode u) starts (found Nothing noState)
         start-clear y = judged-start-holds (decode t) right u h (at-home q) n (many-is n all) few yes i j k y

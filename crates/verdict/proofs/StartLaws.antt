@@ -40,8 +40,8 @@ use Rattle.bounds.proofs.Store.{zeros, zerosZ}
 use Rattle.machine.specs.declared.State.{State}
 use Rattle.machine.specs.Stands.{held}
 use Rattle.machine.specs.Promise.{noState}
-use Rattle.zonetable.specs.Sound.{zonesIn}
-use Rattle.zonetable.proofs.ZoneParts.{given-is-sound, zone-is}
+use Rattle.zone_table.specs.Sound.{zonesIn}
+use Rattle.zone_table.proofs.ZoneParts.{given-is-sound, zone-is}
 use Rattle.verdict.specs.declared.answer.Fault.the-variants.{Nothing, Elsewhere}
 use Rattle.verdict.specs.declared.answer.Fault.the-variants as W
 use Rattle.verdict.specs.Judged.{Judged}

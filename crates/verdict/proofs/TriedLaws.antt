@@ -15,18 +15,18 @@ use Rattle.meaning.specs.Zones.Steps.{steps}
 use Rattle.meaning.specs.Check.Faults as F
 use Rattle.meaning.specs.Check.Obligations.{Obligation, starts, claimed, ofZones, obligations, Holds}
 use Rattle.meaning.specs.Check.Answer as A
-use Rattle.meaning.specs.Text.ModelTable.{decode}
 use Rattle.meaning.specs.Text.RightModel.{RightModel}
+use Rattle.meaning.specs.Text.ProposalReader as reader
 use Rattle.meaning.specs.Text.ProposalTable as table
 use Rattle.meaning.proofs.Lists.{mem-at}
-use Rattle.meaning.proofs.Text.ModelTheorems.{given-right}
-use Rattle.zonetable.specs.Sound.{zonesIn}
-use Rattle.zonetable.proofs.ZoneParts.{given-is-sound, zone-is}
+use Rattle.zone_table.specs.Sound.{zonesIn}
+use Rattle.zone_table.proofs.ZoneParts.{given-is-sound, zone-is}
 use Rattle.verdict.specs.declared.answer.Answer.{Answer}
 use Rattle.verdict.specs.declared.answer.Fault.{Fault}
 use Rattle.verdict.specs.declared.answer.Found.{Found}
 use Rattle.verdict.specs.declared.answer.Tried.{Tried}
-use Rattle.verdict.specs.Answers.{faultOf, SaysAccepted, SaysFailed, Usable, Answered, right}
+use Rattle.verdict.specs.Answers.{faultOf, SaysAccepted, SaysFailed}
+use Rattle.verdict.specs.AnsweredBy.{AnsweredBy}
 use Rattle.verdict.specs.Failing.{failing}
 use Rattle.verdict.specs.Judged.{AtPlace, Judged, ZoneTried}
 use Rattle.verdict.proofs.FoundLaws.{none-some}
@@ -165,46 +165,40 @@ module _ (m : Model) (p : Proposal) where
 
 -- ---- the answer on the tables
 
-module _ (t u : List ℕ) (g : Usable t u) where
-  abbrev m : Model
-  m = decode t
-
+module _ (m : Model) (v : RightModel m) (u : List ℕ) (g : reader.Given m u) where
   abbrev p : Proposal
   p = table.decode u
-
-  model-right : RightModel m
-  model-right = given-right t (g .model)
 
   -- a zone has no more steps than the pool has claims
   steps-few : (n : ℕ) → 1 ≤ n → n ≤ zonesIn u → length (steps m (table.zoneIn u (n - 1))) ≤ 32767
   steps-few n a b =
-      let c = given-is-sound m model-right u (g .proposal) .zones (n - 1) (omega arith) .claims in
+      let c = given-is-sound m v u g .zones (n - 1) (omega arith) .claims in
       omega (arith, c .many, c .most)
 
-  answered-fails : (r : Answer) → FailsSo m p r → Answered t u r
-  answered-fails r h = right g (A.failed (h .failure)) (h .fails) (h .says)
+  answered-fails : (r : Answer) → FailsSo m p r → AnsweredBy m p r
+  answered-fails r h = record { answer = A.failed (h .failure); right = h .fails; says = h .says }
 
   -- the answer where obligation 1 fails
-  pub answered-start : (r : Found) → Judged m p starts r → (faultOf (r .fault) ≡ none → ⊥) → Answered t u (failing 1 1 0 r)
+  pub answered-start : (r : Found) → Judged m p starts r → (faultOf (r .fault) ≡ none → ⊥) → AnsweredBy m p (failing 1 1 0 r)
   answered-start r j h =
       let f = at-fault (r .fault) h in
       answered-fails (failing 1 1 0 r) (start-fails m p r j (f .0) (f .1))
 
   module _ (n : ℕ) (l : n < zonesIn u) (tried : ℕ) (h : TriedTo m p n tried) (r : Tried) (w : ZoneTried m p (n + 1) (table.zoneIn u (n + 1 - 1)) tried r) where
     -- the answer where an obligation of the next zone fails
-    pub answered-zone : (faultOf (r .found .fault) ≡ none → ⊥) → Answered t u (failing (r .number) (n + 1) (r .place) (r .found))
+    pub answered-zone : (faultOf (r .found .fault) ≡ none → ⊥) → AnsweredBy m p (failing (r .number) (n + 1) (r .place) (r .found))
     answered-zone k =
         let f = at-fault (r .found .fault) k in
         answered-fails (failing (r .number) (n + 1) (r .place) (r .found))
-        (tried-fails m p n (table.zoneIn u (n + 1 - 1)) (zone-is m model-right u (g .proposal) (n + 1) (omega arith) (omega arith)) tried h r w (f .0) (f .1))
+        (tried-fails m p n (table.zoneIn u (n + 1 - 1)) (zone-is m v u g (n + 1) (omega arith) (omega arith)) tried h r w (f .0) (f .1))
 
     -- where they hold, one zone more is tried, and the number stays small
     pub zone-tried : faultOf (r .found .fault) ≡ none → tried ≤ 1 + 32767 * n → (r .number ≤ 1 + 32767 * (n + 1)) × TriedTo m p (n + 1) (r .number)
     zone-tried e b = (
       omega (arith, w .all e, steps-few (n + 1) (omega arith) (omega arith)),
-      tried-next m p n (table.zoneIn u (n + 1 - 1)) (zone-is m model-right u (g .proposal) (n + 1) (omega arith) (omega arith)) tried h r w e,
+      tried-next m p n (table.zoneIn u (n + 1 - 1)) (zone-is m v u g (n + 1) (omega arith) (omega arith)) tried h r w e,
     )
 
   -- the answer where all are tried
-  pub answered-all : (n tried : ℕ) → zonesIn u ≤ n → TriedTo m p n tried → (r : Answer) → SaysAccepted tried r → Answered t u r
-  answered-all n tried l h r s = right g (A.accepted tried) (tried-all m p n tried l h) s
+  pub answered-all : (n tried : ℕ) → zonesIn u ≤ n → TriedTo m p n tried → (r : Answer) → SaysAccepted tried r → AnsweredBy m p r
+  answered-all n tried l h r s = record { answer = A.accepted tried; right = tried-all m p n tried l h; says = s }

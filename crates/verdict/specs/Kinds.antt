@@ -11,7 +11,7 @@ use Rattle.meaning.specs.Text.Ranges.{boundMost}
 use Rattle.meaning.specs.Text.Lines.{loweredBy}
 use Rattle.bounds.specs.Claims.{cell, Cells}
 use Rattle.bounds.specs.declared.tightening.Tight.{Tight}
-use Rattle.zones.specs.declared.plan.Plan.{Plan}
+use Rattle.step_reach.specs.declared.plan.Plan.{Plan}
 use Rattle.shown.specs.Drawn.{Drawn, ApartBy, SmallestApart, FirstLate}
 use Rattle.verdict.specs.declared.answer.Fault.the-variants.{Breaks}
 use Rattle.verdict.specs.declared.answer.Found.{Found}

@@ -3,3 +3,4 @@ pub mod Judged
 pub mod Kinds
 pub mod Tests
 pub mod Failing
+pub mod AnsweredBy

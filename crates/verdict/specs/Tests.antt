@@ -5,8 +5,8 @@ use mathlib.Core.List.{List}
 use Prim.Native.Nat.{ℕ, _+_, _-_, _<_}
 use lib.ListN.{getD}
 use Rattle.meaning.specs.Text.ProposalTable.{orderSlot}
-use Rattle.zonetable.specs.Sound.{queueIn}
-use Rattle.zonetable.specs.Read.{locationAt}
+use Rattle.zone_table.specs.Sound.{queueIn}
+use Rattle.zone_table.specs.Read.{locationAt}
 
 -- zone n of a proposal's table has location l, and the first c of these tasks as its queue order
 pub record SameHome (t : List ℕ) (n l : ℕ) (ts : List ℕ) (c : ℕ) : Type 0 where

@@ -1,10 +1,12 @@
 // From what is found of the obligations to the answer.
 ghost use mathlib.Core.Path.{_≡_};
-ghost use Rattle.meaning.specs.Text.ModelReader.{Given};
 ghost use Rattle.meaning.specs.Text.ModelTable.{decode};
 ghost use Rattle.meaning.specs.Text.ProposalReader as reader;
+ghost use Rattle.meaning.specs.Text.ProposalTable as table;
+ghost use Rattle.model_table.specs.Right.{RightTable};
 ghost use Rattle.verdict.specs.Answers as Answers;
-ghost use Rattle.verdict.specs.Answers.{Answered, SaysAccepted};
+ghost use Rattle.verdict.specs.Answers.{SaysAccepted};
+ghost use Rattle.verdict.specs.AnsweredBy.{AnsweredBy};
 ghost use Rattle.verdict.specs.Failing.{failing};
 use crate::answer::Answer;
 use crate::answer::Fault;
@@ -13,7 +15,7 @@ use crate::found::is_clear;
 use crate::found::no_state;
 use crate::start::try_start;
 use crate::trying::try_zone;
-use zonetable::counts::zones as zones_in;
+use zone_table::counts::zones as zones_in;
 
 // Refusal 13.
 pub(crate) fn refused() -> Answer
@@ -59,10 +61,10 @@ fn failed(number: u32, zone: u32, place: u32, found: Found) -> Answer
     }
 }
 
-// The answer on tables that texts give. The counter goes up with every obligation that is tried.
+// The answer on a right model's table and a proposal's table that a text gives over it. The counter goes up with every obligation that is tried.
 pub(crate) fn check_given(model: &[u32], zones: &[u32]) -> Answer
-    requires { ⌜ Given (now model) × reader.Given (decode (now model)) (now zones) ⌝ }
-    ensures { λ r. ⌜ Answered (now (model .entry)) (now (zones .entry)) r ⌝ }
+    requires { ⌜ RightTable (now model) × reader.Given (decode (now model)) (now zones) ⌝ }
+    ensures { λ r. ⌜ AnsweredBy (decode (now (model .entry))) (table.decode (now (zones .entry))) r ⌝ }
 {
     let first = try_start(model, zones);
     if !is_clear(first) {

@@ -4,9 +4,9 @@ ghost use mathlib.Core.Bool.{true};
 ghost use mathlib.Core.Logic.{_↔_};
 ghost use Prim.Native.Nat.{_≤_};
 ghost use Rattle.verdict.specs.Tests.{SameHome};
-use zonetable::zones::location as location_of;
-use zonetable::zones::queue;
-use zonetable::zones::task;
+use zone_table::zones::location as location_of;
+use zone_table::zones::queue;
+use zone_table::zones::task;
 
 // Where the bounds of zone 1 stand in the proposal's table, and how many cells those of a zone take.
 pub(crate) const BOUNDS: usize = 384;

@@ -6,13 +6,13 @@ ghost use Rattle.meaning.specs.Zones.Zone as Z;
 ghost use Rattle.meaning.specs.Zones.Zone.{Zone};
 ghost use Rattle.meaning.specs.Zones.Steps.{Step};
 ghost use Rattle.meaning.specs.Zones.Reached.{homeOfZone};
-ghost use Rattle.meaning.specs.Text.ModelReader.{Given};
 ghost use Rattle.meaning.specs.Text.ModelTable.{decode};
 ghost use Rattle.meaning.specs.Text.ProposalReader as reader;
 ghost use Rattle.meaning.specs.Text.ProposalTable as table;
 ghost use Rattle.meaning.proofs.Exact.Reached.{stepOverflows};
-ghost use Rattle.matrix.specs.Moves.{stepOf, Listed};
-ghost use Rattle.zonetable.specs.Sound.{zonesIn};
+ghost use Rattle.model_table.specs.Right.{RightTable};
+ghost use Rattle.step_bounds.specs.Moves.{stepOf, Listed};
+ghost use Rattle.zone_table.specs.Sound.{zonesIn};
 ghost use Rattle.shown.specs.Drawn.{Drawn, DrawnBy, FirstLate};
 ghost use Rattle.verdict.specs.Judged.{following, Judged};
 ghost use Rattle.verdict.specs.Kinds.{LateBy, BrokenBy, BrokenIs};
@@ -26,17 +26,17 @@ use crate::overflow::overflows;
 use bounds::Tight;
 use bounds::claimed;
 use bounds::first_broken;
-use matrix::Move;
-use parts::clocks;
-use parts::deadline;
+use model_table::clocks;
+use model_table::deadline;
 use shown::first_late;
 use shown::smallest;
 use shown::smallest_apart;
-use zones::Plan;
+use step_bounds::Move;
+use step_reach::Plan;
 
 // The smallest state in which the job at a late position has the age D.
 fn late_at(model: &[u32], t: Tight, plan: Plan, late: u32) -> Found
-    requires { ⌜ Given (now model) ⌝ }
+    requires { ⌜ RightTable (now model) ⌝ }
     requires { ⌜ LateBy (decode (now model)) t plan late ⌝ }
     ensures { λ r. ⌜ ((p : Z.Proposal) (n x c : ℕ) (z : Zone) (st : Step) → Drawn (decode (now (model .entry))) z st t plan → stepOverflows (decode (now (model .entry))) (homeOfZone z) st ≡ false → FirstLate (decode (now (model .entry))) z st late → Judged (decode (now (model .entry))) p (following n x z st c) r) ⌝ }
 {
@@ -60,7 +60,7 @@ fn broken_at(
     i: usize,
     j: usize,
 ) -> Found
-    requires { ⌜ Given (now model) ⌝ }
+    requires { ⌜ RightTable (now model) ⌝ }
     requires { ⌜ BrokenBy (decode (now model)) (now zones) t plan start i j ⌝ }
     ensures { λ r. ⌜ ((z : Zone) (st : Step) → Drawn (decode (now (model .entry))) z st t plan → BrokenIs (decode (now (model .entry))) (now (zones .entry)) z st start i j r) ⌝ }
 {
@@ -73,7 +73,7 @@ fn broken_at(
 
 // Kinds 4 and 5, with a claim that is not 0.
 fn by_claim(model: &[u32], zones: &[u32], t: Tight, plan: Plan, claim: u32) -> Found
-    requires { ⌜ Given (now model) × reader.Given (decode (now model)) (now zones) × (1 ≤ claim) × (claim ≤ zonesIn (now zones)) ⌝ }
+    requires { ⌜ RightTable (now model) × reader.Given (decode (now model)) (now zones) × (1 ≤ claim) × (claim ≤ zonesIn (now zones)) ⌝ }
     requires { ⌜ DrawnBy (decode (now model)) t plan ⌝ }
     ensures { λ r. ⌜ ((n x : ℕ) (z : Zone) (st : Step) → Drawn (decode (now (model .entry))) z st t plan → stepOverflows (decode (now (model .entry))) (homeOfZone z) st ≡ false → FirstLate (decode (now (model .entry))) z st 0 → Judged (decode (now (model .entry))) (table.decode (now (zones .entry))) (following n x z st claim) r) ⌝ }
 {
@@ -105,7 +105,7 @@ pub(crate) fn by_kind(
     step: Move,
     claim: u32,
 ) -> Found
-    requires { ⌜ Given (now model) × reader.Given (decode (now model)) (now zones) × (claim ≤ zonesIn (now zones)) ⌝ }
+    requires { ⌜ RightTable (now model) × reader.Given (decode (now model)) (now zones) × (claim ≤ zonesIn (now zones)) ⌝ }
     requires { ⌜ DrawnBy (decode (now model)) t plan ⌝ }
     ensures { λ r. ⌜ ((n x : ℕ) (z : Zone) → Listed (decode (now (model .entry))) z step → Drawn (decode (now (model .entry))) z (stepOf step) t plan → Judged (decode (now (model .entry))) (table.decode (now (zones .entry))) (following n x z (stepOf step) claim) r) ⌝ }
 {

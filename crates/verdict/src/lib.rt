@@ -2,9 +2,6 @@
 //
 // Obligation 1 is the start's; then zone by zone, place by place, each step with its claim. The first that
 // fails is the answer, or how many were tried.
-ghost use Rattle.meaning.specs.Text.ModelReader.{Given};
-ghost use Rattle.meaning.specs.Text.ModelTable.{decode};
-ghost use Rattle.meaning.specs.Text.ProposalReader as reader;
 ghost use Rattle.verdict.specs.Answers.{Answered};
 
 mod answer;
@@ -24,8 +21,8 @@ pub use answer::Tried;
 use answering::check_given;
 use answering::refused;
 pub use found::no_state;
-use model::writing::is_model;
-use zonetable::test::is_proposal;
+use model_text::writing::is_model;
+use zone_table::test::is_proposal;
 
 // Accepted, with the number of obligations tried; or the first that fails, with the smallest state at
 // fault; or refusal 13 for tables that no text gives.

@@ -2,15 +2,15 @@
 ghost use mathlib.Core.Path.{_≡_};
 ghost use Prim.Native.Nat.{ℕ, _-_, _≤_};
 ghost use Rattle.meaning.specs.Check.Obligations.{Obligation};
-ghost use Rattle.meaning.specs.Text.ModelReader.{Given};
 ghost use Rattle.meaning.specs.Text.ModelTable.{decode};
 ghost use Rattle.meaning.specs.Text.ProposalReader as reader;
 ghost use Rattle.meaning.specs.Text.ProposalTable as table;
 ghost use Rattle.meaning.proofs.Exact.Valuations.{zoneBounds};
+ghost use Rattle.model_table.specs.Right.{RightTable};
 ghost use Rattle.zone.specs.Stands.{zoneOf};
-ghost use Rattle.zonetable.specs.Read.{claimsAt, ZoneRead};
-ghost use Rattle.zonetable.specs.Sound.{zonesIn};
-ghost use Rattle.matrix.specs.Narrowed.{Narrowed};
+ghost use Rattle.zone_table.specs.Read.{claimsAt, ZoneRead};
+ghost use Rattle.zone_table.specs.Sound.{zonesIn};
+ghost use Rattle.step_bounds.specs.Narrowed.{Narrowed};
 ghost use Rattle.verdict.specs.Judged.{AtPlace, Judged, ZoneTried};
 use crate::answer::Found;
 use crate::answer::Tried;
@@ -19,15 +19,15 @@ use crate::found::is_clear;
 use crate::judge::judge;
 use bounds::Tight;
 use listing::step_at;
-use matrix::zone_matrix;
+use step_bounds::zone_matrix;
 use zone::Zone;
-use zonetable::zones::claim;
-use zonetable::zones::claims;
-use zonetable::zones::zone_at;
+use zone_table::zones::claim;
+use zone_table::zones::claims;
+use zone_table::zones::zone_at;
 
 // The obligation at place x of zone n. Its claim may be the zone itself: it is tried like any other.
 fn try_place(model: &[u32], zones: &[u32], n: u32, zone: Zone, closed: Tight, x: u32) -> Found
-    requires { ⌜ Given (now model) × reader.Given (decode (now model)) (now zones) × (1 ≤ n) × (n ≤ zonesIn (now zones)) ⌝ }
+    requires { ⌜ RightTable (now model) × reader.Given (decode (now model)) (now zones) × (1 ≤ n) × (n ≤ zonesIn (now zones)) ⌝ }
     requires { ⌜ ZoneRead (now zones) n zone ⌝ }
     requires { ⌜ Narrowed (zoneBounds (decode (now model)) (zoneOf zone)) closed ⌝ }
     requires { ⌜ (1 ≤ x) × (x ≤ claimsAt (now zones) n) ⌝ }
@@ -41,7 +41,7 @@ fn try_place(model: &[u32], zones: &[u32], n: u32, zone: Zone, closed: Tight, x:
 // All of them, up to the first that fails. `before` obligations were tried before these. The zone's matrix
 // is closed once for all its steps.
 pub(crate) fn try_zone(model: &[u32], zones: &[u32], n: u32, before: u32) -> Tried
-    requires { ⌜ Given (now model) × reader.Given (decode (now model)) (now zones) × (1 ≤ n) × (n ≤ zonesIn (now zones)) ⌝ }
+    requires { ⌜ RightTable (now model) × reader.Given (decode (now model)) (now zones) × (1 ≤ n) × (n ≤ zonesIn (now zones)) ⌝ }
     requires { ⌜ before ≤ 2000000 ⌝ }
     ensures { λ r. ⌜ ZoneTried (decode (now (model .entry))) (table.decode (now (zones .entry))) n (table.zoneIn (now (zones .entry)) (n - 1)) before r ⌝ }
 {

@@ -1,3 +1,4 @@
 pub mod Stands
 pub mod Promise
 pub mod ByCell
+pub mod ByModel

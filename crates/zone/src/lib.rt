@@ -11,7 +11,7 @@ use machine::State;
 use making::exactly_given;
 use making::not_made;
 use making::widest_given;
-use model::writing::is_model;
+use model_text::writing::is_model;
 
 // The tasks of a queue, head first, and 0 behind them.
 pub type Tasks = [u32; 6];

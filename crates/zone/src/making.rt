@@ -1,10 +1,11 @@
 // The zones that are made: the widest of a location and queue, and the one of exactly one state.
 ghost use lib.ListN.{take};
-ghost use Rattle.meaning.specs.Text.ModelReader.{Given};
 ghost use Rattle.meaning.specs.Text.ModelTable.{decode};
 ghost use Rattle.machine.specs.Stands as S;
-ghost use Rattle.zone.specs.Promise.{RightCells, WidestZone, ExactZone, NotMade, MadeWidest, MadeExact};
+ghost use Rattle.zone.specs.Promise.{RightCells, WidestZone, ExactZone, NotMade};
+ghost use Rattle.zone.specs.ByModel.{WidestOver, ExactOver};
 ghost use Rattle.meaning.specs.Model.{Model};
+ghost use Rattle.model_table.specs.Right.{RightTable};
 use crate::Made;
 use crate::Zone;
 use crate::exact::no_bounds;
@@ -45,14 +46,14 @@ pub(crate) fn widest_zone(location: u32, tasks: [u32; 6], count: u32) -> Zone
 
 // The zone that holds exactly the given state.
 pub(crate) fn exact_zone(model: &[u32], state: State) -> Zone
-    requires { ⌜ Given (now model) × S.Lendable (decode (now model)) state ⌝ }
+    requires { ⌜ RightTable (now model) × S.Lendable (decode (now model)) state ⌝ }
     ensures { λ r. ⌜ ExactZone (decode (now (model .entry))) (S.stateOf (decode (now (model .entry))) state) r ⌝ }
 {
     let location = state.location;
     let clocks = state.clocks;
     let jobs = state.jobs;
     let count = state.count;
-    let n = parts::clocks(model) as usize;
+    let n = model_table::clocks(model) as usize;
     let first = of_clocks(clocks, n);
     let bounds = with_jobs(first, n, jobs, count as usize);
     let tasks = tasks_of(jobs);
@@ -64,10 +65,10 @@ pub(crate) fn exact_zone(model: &[u32], state: State) -> Zone
     }
 }
 
-// The widest zone, or refusal 13, over a table that a text gives.
+// The widest zone, or refusal 13, over a right table.
 pub(crate) fn widest_given(model: &[u32], location: u32, tasks: [u32; 6], count: u32) -> Made
-    requires { ⌜ Given (now model) ⌝ }
-    ensures { λ r. ⌜ MadeWidest (now (model .entry)) location tasks count r ⌝ }
+    requires { ⌜ RightTable (now model) ⌝ }
+    ensures { λ r. ⌜ WidestOver (decode (now (model .entry))) location tasks count r ⌝ }
 {
     if is_order(model, location, tasks, count) {
         let zone = widest_zone(location, tasks, count);
@@ -76,10 +77,10 @@ pub(crate) fn widest_given(model: &[u32], location: u32, tasks: [u32; 6], count:
     not_made()
 }
 
-// The zone of exactly one state, or refusal 13, over a table that a text gives.
+// The zone of exactly one state, or refusal 13, over a right table.
 pub(crate) fn exactly_given(model: &[u32], state: State) -> Made
-    requires { ⌜ Given (now model) ⌝ }
-    ensures { λ r. ⌜ MadeExact (now (model .entry)) state r ⌝ }
+    requires { ⌜ RightTable (now model) ⌝ }
+    ensures { λ r. ⌜ ExactOver (decode (now (model .entry))) state r ⌝ }
 {
     if is_lendable(model, state) {
         let zone = exact_zone(model, state);

@@ -5,8 +5,8 @@ ghost use mathlib.Core.Bool.{true};
 ghost use Prim.Native.Nat.{_+_, _≤_, _<_};
 ghost use lib.ListN.{getD, take, drop};
 ghost use Rattle.meaning.specs.Lists.{elem};
-ghost use Rattle.meaning.specs.Text.ModelReader.{Given};
 ghost use Rattle.meaning.specs.Text.ModelTable.{decode};
+ghost use Rattle.model_table.specs.Right.{RightTable};
 ghost use Rattle.zone.specs.Promise.{RightCells};
 ghost use Rattle.zone.specs.ByCell.{rightTask, rightTasks, allZero};
 use crate::Zone;
@@ -76,21 +76,21 @@ fn unused(tasks: [u32; 6], count: usize) -> bool
 }
 
 // Are the location and the queue order of the model, and the unused cells 0?
-pub(crate) fn is_order(table: &[u32], location: u32, tasks: [u32; 6], count: u32) -> bool
-    requires { ⌜ Given (now table) ⌝ }
-    ensures { λ r. ⌜ (r ≡ true) ↔ RightCells (decode (now (table .entry))) location tasks count ⌝ }
+pub(crate) fn is_order(model: &[u32], location: u32, tasks: [u32; 6], count: u32) -> bool
+    requires { ⌜ RightTable (now model) ⌝ }
+    ensures { λ r. ⌜ (r ≡ true) ↔ RightCells (decode (now (model .entry))) location tasks count ⌝ }
 {
     if location == 0 {
         return false;
     }
-    if parts::counts::locations(table) < location {
+    if model_table::counts::locations(model) < location {
         return false;
     }
     let n = count as usize;
     if Zone::QUEUE < n {
         return false;
     }
-    if right_tasks(tasks, n, parts::counts::tasks(table)) {
+    if right_tasks(tasks, n, model_table::counts::tasks(model)) {
         return unused(tasks, n);
     }
     false

@@ -2,7 +2,7 @@
 -- Assumes nothing.
 use Prim.Native.Nat.{_+_, _-_, _*_, _≤_}
 use Rattle.meaning.specs.Text.ModelTable.{decode}
-use Rattle.parts.proofs.PartLaws.{edges-is}
+use Rattle.model_table.proofs.PartLaws.{edges-is}
 use Rattle.steps.specs.Counted.{headIn}
 use Rattle.steps.proofs.Laws.Walking.{numbers-length}
 use Rattle.listing.proofs.FindLaws.{Finding, first-step, second-step, finding-first, finding-over, found, find-on, place-most}
@@ -13,7 +13,7 @@ use Rattle.listing.proofs.step_at.Tie as tie
 use Rattle.listing.proofs.step_at.Reads as reads
 use Rattle.listing.proofs.step_at.Lts as lts
 use Rattle.listing.proofs.step_by.Reads as step-by-reads
-use Rattle.parts.proofs.counts.edges.Reads as edges-reads
+use Rattle.model_table.proofs.counts.edges.Reads as edges-reads
 use Rattle.steps.proofs.claims.share_of.Reads as share-of-reads
 
 abbrev Inv-loop : tie.InvT-loop

@@ -2,16 +2,16 @@
 -- Assumes nothing.
 use mathlib.Core.Path.{sym, ap, _∙_}
 use native.Mathlib.Numerals.{add-one}
-use Rattle.parts.specs.Parts.{releasedIn, toIn}
-use Rattle.matrix.specs.declared.moves.Move.the-variants.{EdgeAt}
+use Rattle.model_table.specs.Parts.{releasedIn, toIn}
+use Rattle.step_bounds.specs.declared.moves.Move.the-variants.{EdgeAt}
 use Rattle.listing.proofs.EdgeLaws.{step-over, step-nothing, step-placed}
 use borrow.Author.Needs.{needs}
 use Rattle.listing.proofs.step_by.Statement.{statement}
 use Rattle.listing.proofs.step_by.Tie as tie
 use Rattle.listing.proofs.step_by.Reads as reads
 use Rattle.listing.proofs.step_by.Lts as lts
-use Rattle.parts.proofs.released.Reads as released-reads
-use Rattle.parts.proofs.to.Reads as to-reads
+use Rattle.model_table.proofs.released.Reads as released-reads
+use Rattle.model_table.proofs.to.Reads as to-reads
 
 returns : tie.Need-returns
 returns c =

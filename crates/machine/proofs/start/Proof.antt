@@ -1,4 +1,5 @@
 use mathlib.Core.Path.{_≡_, sym, _∙_, ap}
+use Rattle.model_table.proofs.GivenLaws.{given-table}
 use Rattle.machine.proofs.CellTests.{told-so, told-not}
 use Prim.Native.Nat.{ℕ}
 use Rattle.meaning.specs.Text.Refusals.{notProper}
@@ -20,7 +21,7 @@ is-given-requires c κs = search needs
 
 -- src/lib.rt:55:9
 start-given-requires : tie.Need-start-given-requires
-start-given-requires c κs = told-so (c .before .is-given .result) (c .before .is-given .ensures) (c .if1 .taken)
+start-given-requires c κs = given-table _ (told-so (c .before .is-given .result) (c .before .is-given .ensures) (c .if1 .taken))
 
 -- src/lib.rt:55:9
 returns : tie.Need-returns

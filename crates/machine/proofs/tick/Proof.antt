@@ -1,5 +1,6 @@
 use mathlib.Core.Path.{_≡_, sym, _∙_, ap}
 use Rattle.machine.proofs.CellTests.{told-so, told-not}
+use Rattle.machine.proofs.LendLaws.{usable-lent}
 use borrow.Author.Needs.{needs}
 use Rattle.machine.proofs.tick.Statement.{statement}
 use Rattle.machine.proofs.tick.Tie as tie
@@ -15,7 +16,7 @@ is-usable-requires c κs = search needs
 
 -- src/lib.rt:65:9
 tick-given-requires : tie.Need-tick-given-requires
-tick-given-requires c κs = told-so (c .before .is-usable .result) (c .before .is-usable .ensures) (c .if1 .taken)
+tick-given-requires c κs = usable-lent _ _ (told-so (c .before .is-usable .result) (c .before .is-usable .ensures) (c .if1 .taken))
 
 -- src/lib.rt:65:9
 returns : tie.Need-returns

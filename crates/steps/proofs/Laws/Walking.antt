@@ -15,13 +15,13 @@ use Rattle.meaning.specs.Zones.Zone.{Zone}
 use Rattle.meaning.specs.Zones.Steps.{steps}
 use Rattle.meaning.specs.Lists.{nth1}
 use Rattle.meaning.specs.Text.ModelTable.{decode, edges}
-use Rattle.meaning.specs.Text.ModelReader.{Given, words}
+use Rattle.meaning.specs.Text.ModelReader.{words}
 use Rattle.meaning.specs.Text.RightProposal.{empty, zeroDue, zerosAt}
 use Rattle.meaning.proofs.Text.Choices.{nonsense}
 use Rattle.meaning.proofs.Text.ModelCells.{words-at, words-length}
-use Rattle.meaning.proofs.Text.ModelTheorems.{given-right}
-use Rattle.parts.specs.Parts.{edgeOf}
-use Rattle.parts.proofs.PartLaws.{edge-is}
+use Rattle.model_table.specs.Right.{RightTable}
+use Rattle.model_table.specs.Parts.{edgeOf}
+use Rattle.model_table.proofs.PartLaws.{edge-is}
 use Rattle.meaning.proofs.Zones.Counting.{placesBy, zeroHolds, placesFrom, zerosFrom, steps-count, zeros-count, placesBy-is, zeroHolds-is, zero-place, steps-most}
 use Rattle.steps.specs.declared.claims.Share.{Share}
 use Rattle.steps.specs.declared.claims.Steps.{Steps}
@@ -123,11 +123,11 @@ module _ (m : Model) (z : Zone) (t : List ℕ) (at : ℕ) where
       and-one false = refl
 
 -- the same over a model's table: one edge more
-module _ (t : List ℕ) (g : Given t) (z : Zone) (u : List ℕ) (at many k : ℕ) (zeros : Bool) (w : Walking (decode t) z u at many zeros k) where
+module _ (t : List ℕ) (g : RightTable t) (z : Zone) (u : List ℕ) (at many k : ℕ) (zeros : Bool) (w : Walking (decode t) z u at many zeros k) where
   pub walking-edge : length (z .order) ≤ 6 → k < edges t → (r : Share) → ShareIs (decode t) z (edgeOf t (k + 1)) r → (kept : ℕ) (b : Bool) → kept ≡ getD u (at + many) 0
       → b ≡ (zeros && (not (r .zero) || eqb (kept - 1) 0)) → (many + r .places ≤ 226) × Walking (decode t) z u at (many + r .places) b (k + 1)
   walking-edge h l r s kept b f q =
       let e : getElem? (decode t .edges) k ≡ some (edgeOf t (k + 1)) =
       subst (λ (x : ℕ). nth1 (decode t .edges) x ≡ some (edgeOf t (k + 1))) (add-one k) (edge-is t g (k + 1) (omega arith) (omega arith)) in
       let n = walking-more (decode t) z u at many k zeros w (edgeOf t (k + 1)) e r s kept b f q in
-      (walking-most (decode t) z u at (many + r .places) (k + 1) b n h (given-right t g .edges-high), n)
+      (walking-most (decode t) z u at (many + r .places) (k + 1) b n h (g .right .edges-high), n)

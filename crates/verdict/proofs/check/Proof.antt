@@ -2,8 +2,9 @@
 -- Assumes nothing.
 use mathlib.Core.Logic.{⊎-elim}
 use borrow.Author.Needs.{needs}
-use Rattle.zones.proofs.TestLaws.{never}
-use Rattle.verdict.specs.Answers.{unusable}
+use Rattle.model_table.proofs.GivenLaws.{given-table}
+use Rattle.step_reach.proofs.TestLaws.{never}
+use Rattle.verdict.specs.Answers.{unusable, right}
 use Rattle.verdict.proofs.check.Statement.{statement}
 use Rattle.verdict.proofs.check.Tie as tie
 
@@ -11,14 +12,17 @@ is-model-requires : tie.Need-is-model-requires
 is-model-requires c κs = search needs
 
 is-proposal-requires : tie.Need-is-proposal-requires
-is-proposal-requires c κs = c .before .is-model .ensures .yes (c .if1 .taken)
+is-proposal-requires c κs = given-table _ (c .before .is-model .ensures .yes (c .if1 .taken))
 
 check-given-requires : tie.Need-check-given-requires
 check-given-requires c κs =
-    (c .before .before .before .is-model .ensures .yes (c .before .before .if1 .taken), c .before .is-proposal .ensures .0 (c .if2 .taken))
+    (given-table _ (c .before .before .before .is-model .ensures .yes (c .before .before .if1 .taken)), c .before .is-proposal .ensures .0 (c .if2 .taken))
 
 returns : tie.Need-returns
-returns c = search needs
+returns c =
+    let w = c .check-given .ensures in
+    right (record { model = c .before .before .before .before .is-model .ensures .yes (c .before .before .before .if1 .taken); proposal = c .before .before .is-proposal .ensures .0 (c .before .if2 .taken) })
+    (w .answer) (w .right) (w .says)
 
 refused-requires : tie.Need-refused-requires
 refused-requires c κs = search needs

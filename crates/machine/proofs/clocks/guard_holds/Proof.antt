@@ -2,7 +2,7 @@ use mathlib.Core.Bool.{Bool}
 use Prim.Native.Nat.{ℕ, _+_, _-_, _≤_, _<_, _/_, _%_}
 use mathlib.Core.Path.{_≡_, refl, sym, _∙_, ap}
 use Rattle.meaning.specs.Lists.{nth1D}
-use Rattle.parts.specs.Parts.{boundIn}
+use Rattle.model_table.specs.Parts.{boundIn}
 use Rattle.machine.specs.ByCell.{boundMet}
 use Rattle.machine.proofs.AllCells.{Passed, passed-start, passed-more, passed-stop, passed-end, every-collect}
 use borrow.Author.Needs.{needs}
@@ -44,7 +44,7 @@ loop-again c = let l = c .before .before .before .loop in
 returns : tie.Need-returns Inv-loop μ-loop
 returns c = let a = c .before .before .before .before .before .args in
     let l = c .before .before .before .loop in
-    let h : ℕ → Bool = λ (y : ℕ). boundMet (boundIn (a .table .now) (a .edge) (y / 5) (y % 5)) (nth1D (a .clocks) (y / 5) 0) (nth1D (a .clocks) (y % 5) 0) in
+    let h : ℕ → Bool = λ (y : ℕ). boundMet (boundIn (a .model .now) (a .edge) (y / 5) (y % 5)) (nth1D (a .clocks) (y / 5) 0) (nth1D (a .clocks) (y % 5) 0) in
     sym (sym (every-collect _ 25 _ _) ∙ passed-stop 25 h (l .x) (c .before .row-met .result) (omega arith) (c .before .row-met .ensures) (c .if1 .left))
 
 -- src/clocks.rt:93:1

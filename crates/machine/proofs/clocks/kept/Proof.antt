@@ -6,7 +6,7 @@ use Rattle.machine.proofs.clocks.kept.Statement.{statement}
 use Rattle.machine.proofs.clocks.kept.Tie as tie
 use Rattle.machine.proofs.clocks.kept.Reads as reads
 use Rattle.machine.proofs.clocks.kept.Lts as lts
-use Rattle.parts.proofs.reset.Reads as reset-reads
+use Rattle.model_table.proofs.reset.Reads as reset-reads
 
 -- src/clocks.rt:112:8
 reset-requires : tie.Need-reset-requires

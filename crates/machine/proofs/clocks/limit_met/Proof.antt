@@ -9,7 +9,7 @@ use Rattle.machine.proofs.clocks.limit_met.Statement.{statement}
 use Rattle.machine.proofs.clocks.limit_met.Tie as tie
 use Rattle.machine.proofs.clocks.limit_met.Reads as reads
 use Rattle.machine.proofs.clocks.limit_met.Lts as lts
-use Rattle.parts.proofs.limit.Reads as limit-reads
+use Rattle.model_table.proofs.limit.Reads as limit-reads
 
 -- src/clocks.rt:40:9
 limit-requires : tie.Need-limit-requires

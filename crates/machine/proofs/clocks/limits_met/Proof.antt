@@ -2,7 +2,7 @@ use mathlib.Core.Bool.{Bool}
 use Prim.Native.Nat.{ℕ, _+_, _-_, _≤_, _<_, _/_, _%_}
 use mathlib.Core.Path.{_≡_, refl, sym, _∙_, ap}
 use lib.ListN.{getD}
-use Rattle.parts.specs.Parts.{limitIn}
+use Rattle.model_table.specs.Parts.{limitIn}
 use Rattle.machine.specs.ByCell.{limitMet}
 use Rattle.machine.proofs.AllCells.{Passed, passed-start, passed-more, passed-stop, passed-end, every-collect}
 use borrow.Author.Needs.{needs}
@@ -55,18 +55,18 @@ loop-less c = search needs
 loop-again : tie.Need-loop-again Inv-loop μ-loop
 loop-again c = let a = c .before .before .before .before .before .args in
     let l = c .before .before .before .loop in
-    let h : ℕ → Bool = λ (x : ℕ). limitMet (limitIn (a .table .now) (a .location) (1 + x)) (getD (a .t3) x 0) in
+    let h : ℕ → Bool = λ (x : ℕ). limitMet (limitIn (a .model .now) (a .location) (1 + x)) (getD (a .t3) x 0) in
     let z : l .k + 1 ≡ 1 + l .k = omega arith in
-    let e : c .before .limit-met .result ≡ h (l .k) = c .before .limit-met .ensures ∙ ap (λ (j : ℕ). limitMet (limitIn (a .table .now) (a .location) j) (getD (a .t3) (l .k) 0)) z in
+    let e : c .before .limit-met .result ≡ h (l .k) = c .before .limit-met .ensures ∙ ap (λ (j : ℕ). limitMet (limitIn (a .model .now) (a .location) j) (getD (a .t3) (l .k) 0)) z in
     passed-more 4 h (l .k) (c .before .limit-met .result) (l .inv) (omega arith) e (c .if1 .taken)
 
 -- src/clocks.rt:56:13
 returns : tie.Need-returns Inv-loop μ-loop
 returns c = let a = c .before .before .before .before .before .args in
     let l = c .before .before .before .loop in
-    let h : ℕ → Bool = λ (x : ℕ). limitMet (limitIn (a .table .now) (a .location) (1 + x)) (getD (a .t3) x 0) in
+    let h : ℕ → Bool = λ (x : ℕ). limitMet (limitIn (a .model .now) (a .location) (1 + x)) (getD (a .t3) x 0) in
     let z : l .k + 1 ≡ 1 + l .k = omega arith in
-    let e : c .before .limit-met .result ≡ h (l .k) = c .before .limit-met .ensures ∙ ap (λ (j : ℕ). limitMet (limitIn (a .table .now) (a .location) j) (getD (a .t3) (l .k) 0)) z in
+    let e : c .before .limit-met .result ≡ h (l .k) = c .before .limit-met .ensures ∙ ap (λ (j : ℕ). limitMet (limitIn (a .model .now) (a .location) j) (getD (a .t3) (l .k) 0)) z in
     sym (sym (every-collect _ 4 _ _) ∙ passed-stop 4 h (l .k) (c .before .limit-met .result) (omega arith) e (c .if1 .left))
 
 -- src/clocks.rt:48:1

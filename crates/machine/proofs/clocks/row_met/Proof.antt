@@ -1,7 +1,7 @@
 use Prim.Native.Nat.{ℕ, _≤_, _/_, _%_}
 use mathlib.Core.Path.{_≡_, _∙_, ap, ap₂}
 use native.Mathlib.Omega.{arith}
-use Rattle.parts.specs.Parts.{boundIn}
+use Rattle.model_table.specs.Parts.{boundIn}
 use Rattle.machine.specs.ByCell.{boundMet}
 use Rattle.machine.proofs.ClockLaws.{value-small}
 use borrow.Author.Needs.{needs}
@@ -37,7 +37,7 @@ bound-met-requires c κs = let b = c .before .before .before in
 -- src/clocks.rt:83:1
 returns : tie.Need-returns
 returns c = let a = c .before .before .before .before .args in
-    c .bound-met .ensures ∙ ap₂ (boundMet (boundIn (a .table .now) (a .edge) (a .x / 5) (a .x % 5))) (c .before .before .value .ensures) (c .before .value2 .ensures)
+    c .bound-met .ensures ∙ ap₂ (boundMet (boundIn (a .model .now) (a .edge) (a .x / 5) (a .x % 5))) (c .before .before .value .ensures) (c .before .value2 .ensures)
 
 pub row-met-spec : {M : Type 1} → statement M
 row-met-spec =

@@ -14,8 +14,8 @@ use Rattle.machine.proofs.judge.is_lendable.Reads as reads
 use Rattle.machine.proofs.judge.is_lendable.Lts as lts
 use Rattle.machine.proofs.judge.clocks_right.Reads as clocks-right-reads
 use Rattle.machine.proofs.judge.queue_right.Reads as queue-right-reads
-use Rattle.parts.proofs.clocks.Reads as clocks-reads
-use Rattle.parts.proofs.counts.locations.Reads as locations-reads
+use Rattle.model_table.proofs.clocks.Reads as clocks-reads
+use Rattle.model_table.proofs.counts.locations.Reads as locations-reads
 
 -- src/judge.rt:102:9
 returns : tie.Need-returns
@@ -27,11 +27,11 @@ locations-requires c κs = search needs
 
 -- src/judge.rt:105:9
 returns-2 : tie.Need-returns-2
-returns-2 c = λ w. let b = c .before .before .before .before in omega (arith, lent-high (b .args .table .now) (b .pre) (b .args .state) w, c .before .locations .ensures)
+returns-2 c = λ w. let b = c .before .before .before .before in omega (arith, lent-high (b .args .model .now) (b .pre) (b .args .state) w, c .before .locations .ensures)
 
 -- src/judge.rt:109:9
 returns-3 : tie.Need-returns-3
-returns-3 c = λ w. let b = c .before .before .before .before .before in omega (arith, lent-few (b .args .table .now) (b .pre) (b .args .state) w)
+returns-3 c = λ w. let b = c .before .before .before .before .before in omega (arith, lent-few (b .args .model .now) (b .pre) (b .args .state) w)
 
 -- src/judge.rt:112:29
 clocks-requires : tie.Need-clocks-requires
@@ -56,7 +56,7 @@ queue-right-requires c κs = search needs
 -- src/judge.rt:114:9
 returns-4 : tie.Need-returns-4
 returns-4 c = let b = c .before .before .before .before .before .before .before .before .before .before .before in
-    let t = b .args .table .now in
+    let t = b .args .model .now in
     let s = b .args .state in
     let j = c .queue-right .ensures in
     let k = c .before .before .before .clocks-right .ensures in
@@ -69,7 +69,7 @@ returns-4 c = let b = c .before .before .before .before .before .before .before 
 returns-5 : tie.Need-returns-5
 returns-5 c = λ w.
     let b = c .before .before .before .before .before .before .before .before .before in
-    let t = b .args .table .now in
+    let t = b .args .model .now in
     let s = b .args .state in
     let e = ap (λ (n : ℕ). allTo 4 (clockRight (s .clocks) n)) (c .before .before .clocks2 .ensures) in
     never (c .before .clocks-right .ensures .is ∙ e ∙ lent-clock-cells t (b .pre) s w) (c .if4 .left)

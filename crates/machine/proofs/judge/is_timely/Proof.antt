@@ -8,8 +8,8 @@ use Rattle.machine.proofs.judge.is_timely.Statement.{statement}
 use Rattle.machine.proofs.judge.is_timely.Tie as tie
 use Rattle.machine.proofs.judge.is_timely.Reads as reads
 use Rattle.machine.proofs.judge.is_timely.Lts as lts
-use Rattle.parts.proofs.deadline.Reads as deadline-reads
-use Rattle.parts.proofs.work.Reads as work-reads
+use Rattle.model_table.proofs.deadline.Reads as deadline-reads
+use Rattle.model_table.proofs.work.Reads as work-reads
 
 -- src/judge.rt:43:19
 work-requires : tie.Need-work-requires
@@ -22,12 +22,12 @@ deadline-requires c κs = search needs
 -- src/judge.rt:44:9
 returns : tie.Need-returns
 returns c = let a = c .before .before .before .before .before .before .args in
-    ap (ltb (a .job .age)) (c .before .deadline .ensures) ∙ timely-work (a .table .now) (a .job) (omega (arith, c .before .before .before .before .work .ensures))
+    ap (ltb (a .job .age)) (c .before .deadline .ensures) ∙ timely-work (a .model .now) (a .job) (omega (arith, c .before .before .before .before .work .ensures))
 
 -- src/judge.rt:40:1
 returns-2 : tie.Need-returns-2
 returns-2 c = let a = c .before .before .before .before .args in
-    timely-done (a .table .now) (a .job) (omega (arith, c .before .before .work .ensures))
+    timely-done (a .model .now) (a .job) (omega (arith, c .before .before .work .ensures))
 
 pub is-timely-spec : {M : Type 1} → statement M
 is-timely-spec = tie.close (tie.spec work-requires deadline-requires returns returns-2)

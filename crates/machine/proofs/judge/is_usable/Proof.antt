@@ -1,4 +1,5 @@
 use mathlib.Core.Path.{_≡_, sym, _∙_, ap}
+use Rattle.model_table.proofs.GivenLaws.{given-table}
 use Rattle.machine.proofs.CellTests.{tells-by, told-so, told-not}
 use borrow.Author.Needs.{needs}
 use Rattle.machine.proofs.judge.is_usable.Statement.{statement}
@@ -14,7 +15,7 @@ is-given-requires c κs = search needs
 
 -- src/judge.rt:131:9
 is-lendable-requires : tie.Need-is-lendable-requires
-is-lendable-requires c κs = told-so (c .before .is-given .result) (c .before .is-given .ensures) (c .if1 .taken)
+is-lendable-requires c κs = given-table _ (told-so (c .before .is-given .result) (c .before .is-given .ensures) (c .if1 .taken))
 
 -- src/judge.rt:131:9
 returns : tie.Need-returns

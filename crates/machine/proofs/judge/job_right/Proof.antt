@@ -34,15 +34,15 @@ is-queued-requires c κs = search needs
 
 -- src/judge.rt:70:17
 returns : tie.Need-returns
-returns c = let a = c .before .before .before .before .before .before .before .args in job-queued (a .table .now) (a .t2) (a .count) (a .k) (omega arith) (sym (c .before .before .before .is-timely .ensures) ∙ c .before .before .if2 .taken) true (sym (c .before .is-queued .ensures) ∙ c .if3 .taken)
+returns c = let a = c .before .before .before .before .before .before .before .args in job-queued (a .model .now) (a .t2) (a .count) (a .k) (omega arith) (sym (c .before .before .before .is-timely .ensures) ∙ c .before .before .if2 .taken) true (sym (c .before .is-queued .ensures) ∙ c .if3 .taken)
 
 -- src/judge.rt:72:13
 returns-2 : tie.Need-returns-2
-returns-2 c = let a = c .before .before .before .before .before .before .before .args in job-queued (a .table .now) (a .t2) (a .count) (a .k) (omega arith) (sym (c .before .before .before .is-timely .ensures) ∙ c .before .before .if2 .taken) false (sym (c .before .is-queued .ensures) ∙ c .if3 .left)
+returns-2 c = let a = c .before .before .before .before .before .before .before .args in job-queued (a .model .now) (a .t2) (a .count) (a .k) (omega arith) (sym (c .before .before .before .is-timely .ensures) ∙ c .before .before .if2 .taken) false (sym (c .before .is-queued .ensures) ∙ c .if3 .left)
 
 -- src/judge.rt:74:9
 returns-3 : tie.Need-returns-3
-returns-3 c = let a = c .before .before .before .before .before .args in job-untimely (a .table .now) (a .t2) (a .count) (a .k) (omega arith) (sym (c .before .is-timely .ensures) ∙ c .if2 .left)
+returns-3 c = let a = c .before .before .before .before .before .args in job-untimely (a .model .now) (a .t2) (a .count) (a .k) (omega arith) (sym (c .before .is-timely .ensures) ∙ c .if2 .left)
 
 -- src/judge.rt:76:5
 is-unused-requires : tie.Need-is-unused-requires
@@ -50,7 +50,7 @@ is-unused-requires c κs = search needs
 
 -- src/judge.rt:62:1
 returns-4 : tie.Need-returns-4
-returns-4 c = let a = c .before .before .before .before .args in c .is-unused .ensures ∙ job-behind (a .table .now) (a .t2) (a .count) (a .k) (omega arith)
+returns-4 c = let a = c .before .before .before .before .args in c .is-unused .ensures ∙ job-behind (a .model .now) (a .t2) (a .count) (a .k) (omega arith)
 
 pub job-right-spec : {M : Type 1} → statement M
 job-right-spec =

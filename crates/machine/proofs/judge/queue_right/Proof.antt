@@ -42,7 +42,7 @@ loop-again c = let l = c .before .before .before .loop in
 returns : tie.Need-returns Inv-loop μ-loop
 returns c = let a = c .before .before .before .before .before .args in
     let l = c .before .before .before .loop in
-    record { long = search needs; is = sym (passed-stop 6 (jobRight (a .table .now) (a .jobs) (a .count)) (l .k) (c .before .job-right .result) (omega arith) (c .before .job-right .ensures) (c .if1 .left)) }
+    record { long = search needs; is = sym (passed-stop 6 (jobRight (a .model .now) (a .jobs) (a .count)) (l .k) (c .before .job-right .result) (omega arith) (c .before .job-right .ensures) (c .if1 .left)) }
 
 -- src/judge.rt:80:1
 returns-2 : tie.Need-returns-2 Inv-loop μ-loop

@@ -27,7 +27,7 @@ bad-requires c κs = search needs
 
 -- src/place.rt:66:9
 returns : tie.Need-returns
-returns c = let a = c .before .before .before .before .before .args in c .bad .ensures ∙ taken-twice (a .table .now) (a .task) (a .k) (a .s) (a .job) (c .before .if1 .taken)
+returns c = let a = c .before .before .before .before .before .args in c .bad .ensures ∙ taken-twice (a .model .now) (a .task) (a .k) (a .s) (a .job) (c .before .if1 .taken)
 
 -- src/place.rt:68:5
 array-write-marks : tie.Need-array-write-marks
@@ -39,7 +39,7 @@ either-requires c κs = search needs
 
 -- src/place.rt:71:9
 returns-2 : tie.Need-returns-2
-returns-2 c = let a = c .before .before .before .before .before .before .before .args in taken-behind (a .table .now) (a .task) (a .k) (a .s) (a .job) (c .before .before .before .if1 .left) (c .if2 .taken) _ (c .before .either .ensures)
+returns-2 c = let a = c .before .before .before .before .before .before .before .args in taken-behind (a .model .now) (a .task) (a .k) (a .s) (a .job) (c .before .before .before .if1 .left) (c .if2 .taken) _ (c .before .either .ensures)
 
 -- src/place.rt:79:9
 beats-requires : tie.Need-beats-requires
@@ -47,7 +47,7 @@ beats-requires c κs = search needs
 
 -- src/place.rt:59:1
 returns-3 : tie.Need-returns-3
-returns-3 c = let a = c .before .before .before .before .before .before .before .before .args in taken-first (a .table .now) (a .task) (a .k) (a .s) (a .job) (c .before .before .before .before .if1 .left) (c .before .if2 .left) _ _ (c .before .before .either .ensures) (c .beats .ensures)
+returns-3 c = let a = c .before .before .before .before .before .before .before .before .args in taken-first (a .model .now) (a .task) (a .k) (a .s) (a .job) (c .before .before .before .before .if1 .left) (c .before .if2 .left) _ _ (c .before .before .either .ensures) (c .beats .ensures)
 
 pub take-in-spec : {M : Type 1} → statement M
 take-in-spec =

@@ -8,8 +8,8 @@ use Rattle.machine.proofs.queue.beats.Reads as reads
 use Rattle.machine.proofs.queue.beats.Lts as lts
 use Rattle.machine.proofs.queue.is_shorter.Reads as is-shorter-reads
 use Rattle.machine.proofs.queue.is_sooner.Reads as is-sooner-reads
-use Rattle.parts.proofs.policy.Reads as policy-reads
-use Rattle.parts.proofs.priority.Reads as priority-reads
+use Rattle.model_table.proofs.policy.Reads as policy-reads
+use Rattle.model_table.proofs.priority.Reads as priority-reads
 
 -- src/queue.rt:155:9
 policy-requires : tie.Need-policy-requires
@@ -27,7 +27,7 @@ priority-requires-2 c κs = search needs
 returns : tie.Need-returns
 returns c = let a = c .before .before .before .before .before .args in
     ap₂ ltb (c .before .priority .ensures) (c .priority2 .ensures)
-    ∙ beats-ranks (a .table .now) (a .task) (a .job) (sym (c .before .before .before .policy .ensures) ∙ c .before .before .if1 .taken)
+    ∙ beats-ranks (a .model .now) (a .task) (a .job) (sym (c .before .before .before .policy .ensures) ∙ c .before .before .if1 .taken)
 
 -- src/queue.rt:160:9
 is-sooner-requires : tie.Need-is-sooner-requires
@@ -37,7 +37,7 @@ is-sooner-requires c κs = search needs
 returns-2 : tie.Need-returns-2
 returns-2 c = let a = c .before .before .before .before .before .args in
     let p = c .before .before .before .policy .ensures in
-    c .is-sooner .ensures ∙ beats-sooner (a .table .now) (a .task) (a .job) (λ z. c .before .before .if1 .left (p ∙ z)) (sym p ∙ c .before .if2 .taken)
+    c .is-sooner .ensures ∙ beats-sooner (a .model .now) (a .task) (a .job) (λ z. c .before .before .if1 .left (p ∙ z)) (sym p ∙ c .before .if2 .taken)
 
 -- src/queue.rt:162:5
 is-shorter-requires : tie.Need-is-shorter-requires
@@ -47,7 +47,7 @@ is-shorter-requires c κs = search needs
 returns-3 : tie.Need-returns-3
 returns-3 c = let a = c .before .before .before .before .before .args in
     let p = c .before .before .before .policy .ensures in
-    c .is-shorter .ensures ∙ beats-shorter (a .table .now) (a .task) (a .job) (λ z. c .before .before .if1 .left (p ∙ z)) (λ z. c .before .if2 .left (p ∙ z))
+    c .is-shorter .ensures ∙ beats-shorter (a .model .now) (a .task) (a .job) (λ z. c .before .before .if1 .left (p ∙ z)) (λ z. c .before .if2 .left (p ∙ z))
 
 pub beats-spec : {M : Type 1} → statement M
 beats-spec =

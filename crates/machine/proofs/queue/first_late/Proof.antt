@@ -51,9 +51,9 @@ returns c = let a = c .before .before .before .before .before .before .args in
     let l = c .before .before .before .before .loop in
     let q = queueOf (a .t2) (a .count) in
     let e = queue-length (a .t2) (a .count) (omega arith) in
-    let at = ap (isLate (decode (a .table .now))) (queue-at (a .t2) (a .count) (l .k) (omega arith)) in
+    let at = ap (isLate (decode (a .model .now))) (queue-at (a .t2) (a .count) (l .k) (omega arith)) in
     let z : l .k + 1 ≡ suc (l .k) = omega arith in
-    z ∙ sym (first-met (isLate (decode (a .table .now))) noneThere q (l .k) (l .inv) (omega arith) (at ∙ sym (c .before .is-late .ensures) ∙ c .if1 .taken))
+    z ∙ sym (first-met (isLate (decode (a .model .now))) noneThere q (l .k) (l .inv) (omega arith) (at ∙ sym (c .before .is-late .ensures) ∙ c .if1 .taken))
 
 -- src/queue.rt:117:9
 add-k : tie.Need-add-k Inv-loop μ-loop
@@ -69,7 +69,7 @@ loop-again c = let a = c .before .before .before .before .before .before .args i
     let l = c .before .before .before .before .loop in
     let q = queueOf (a .t2) (a .count) in
     let e = queue-length (a .t2) (a .count) (omega arith) in
-    let at = ap (isLate (decode (a .table .now))) (queue-at (a .t2) (a .count) (l .k) (omega arith)) in
+    let at = ap (isLate (decode (a .model .now))) (queue-at (a .t2) (a .count) (l .k) (omega arith)) in
     sought-more _ noneThere q (l .k) (l .inv) (omega arith) (at ∙ sym (c .before .is-late .ensures) ∙ c .if1 .left)
 
 -- src/queue.rt:108:1
@@ -78,7 +78,7 @@ returns-2 c = let a = c .before .before .before .args in
     let l = c .before .loop in
     let q = queueOf (a .t2) (a .count) in
     let e = queue-length (a .t2) (a .count) (omega arith) in
-    sym (first-no (isLate (decode (a .table .now))) noneThere q (l .k) (l .inv) (omega arith))
+    sym (first-no (isLate (decode (a .model .now))) noneThere q (l .k) (l .inv) (omega arith))
 
 pub first-late-spec : {M : Type 1} → statement M
 first-late-spec =

@@ -9,7 +9,7 @@ use Rattle.machine.proofs.queue.is_late.Statement.{statement}
 use Rattle.machine.proofs.queue.is_late.Tie as tie
 use Rattle.machine.proofs.queue.is_late.Reads as reads
 use Rattle.machine.proofs.queue.is_late.Lts as lts
-use Rattle.parts.proofs.deadline.Reads as deadline-reads
+use Rattle.model_table.proofs.deadline.Reads as deadline-reads
 
 -- src/queue.rt:104:16
 deadline-requires : tie.Need-deadline-requires
@@ -17,7 +17,7 @@ deadline-requires c κs = search needs
 
 -- src/queue.rt:100:1
 returns : tie.Need-returns
-returns c = let b = c .before .before .before in ap (eqb (b .args .job .age)) (c .before .deadline .ensures) ∙ late-is (b .args .table .now) (b .pre) (jobOf (b .args .job))
+returns c = let b = c .before .before .before in ap (eqb (b .args .job .age)) (c .before .deadline .ensures) ∙ late-is (b .args .model .now) (b .pre) (jobOf (b .args .job))
 
 pub is-late-spec : {M : Type 1} → statement M
 is-late-spec = tie.close (tie.spec deadline-requires returns)

@@ -8,7 +8,7 @@ use Rattle.machine.proofs.queue.is_shorter.Statement.{statement}
 use Rattle.machine.proofs.queue.is_shorter.Tie as tie
 use Rattle.machine.proofs.queue.is_shorter.Reads as reads
 use Rattle.machine.proofs.queue.is_shorter.Lts as lts
-use Rattle.parts.proofs.work.Reads as work-reads
+use Rattle.model_table.proofs.work.Reads as work-reads
 
 -- src/queue.rt:143:9
 work-requires : tie.Need-work-requires
@@ -16,7 +16,7 @@ work-requires c κs = search needs
 
 -- src/queue.rt:146:9
 returns : tie.Need-returns
-returns c = let a = c .before .before .before .args in shorter-over (a .table .now) (a .task) (a .job) (omega (arith, c .before .work .ensures))
+returns c = let a = c .before .before .before .args in shorter-over (a .model .now) (a .task) (a .job) (omega (arith, c .before .work .ensures))
 
 -- src/queue.rt:148:5
 work-requires-2 : tie.Need-work-requires-2
@@ -27,7 +27,7 @@ returns-2 : tie.Need-returns-2
 returns-2 c = let a = c .before .before .before .before .args in
     let d = c .before .before .work .ensures in
     ap₂ ltb (c .work2 .ensures) (ap (λ (x : ℕ). x - a .job .done) d)
-    ∙ shorter-owed (a .table .now) (a .task) (a .job) (omega arith)
+    ∙ shorter-owed (a .model .now) (a .task) (a .job) (omega arith)
 
 pub is-shorter-spec : {M : Type 1} → statement M
 is-shorter-spec = tie.close (tie.spec work-requires returns work-requires-2 returns-2)

@@ -8,7 +8,7 @@ use Rattle.machine.proofs.queue.is_sooner.Statement.{statement}
 use Rattle.machine.proofs.queue.is_sooner.Tie as tie
 use Rattle.machine.proofs.queue.is_sooner.Reads as reads
 use Rattle.machine.proofs.queue.is_sooner.Lts as lts
-use Rattle.parts.proofs.deadline.Reads as deadline-reads
+use Rattle.model_table.proofs.deadline.Reads as deadline-reads
 
 -- src/queue.rt:127:9
 deadline-requires : tie.Need-deadline-requires
@@ -16,7 +16,7 @@ deadline-requires c κs = search needs
 
 -- src/queue.rt:129:9
 returns : tie.Need-returns
-returns c = let a = c .before .before .before .args in sooner-older (a .table .now) (a .task) (a .job) (omega (arith, c .before .deadline .ensures))
+returns c = let a = c .before .before .before .args in sooner-older (a .model .now) (a .task) (a .job) (omega (arith, c .before .deadline .ensures))
 
 -- src/queue.rt:132:9
 deadline-requires-2 : tie.Need-deadline-requires-2
@@ -27,7 +27,7 @@ returns-2 : tie.Need-returns-2
 returns-2 c = let a = c .before .before .before .before .before .args in
     let d = c .before .before .before .deadline .ensures in
     let e = c .before .deadline2 .ensures in
-    sooner-tie (a .table .now) (a .task) (a .job) (omega arith) (omega arith)
+    sooner-tie (a .model .now) (a .task) (a .job) (omega arith) (omega arith)
 
 -- src/queue.rt:122:1
 returns-3 : tie.Need-returns-3
@@ -35,7 +35,7 @@ returns-3 c = let a = c .before .before .before .before .before .args in
     let d = c .before .before .before .deadline .ensures in
     let e = c .before .deadline2 .ensures in
     ap₂ ltb e (ap (λ (x : ℕ). x - a .job .age) d)
-    ∙ sooner-left (a .table .now) (a .task) (a .job) (omega arith) (λ z. c .if2 .left (omega arith))
+    ∙ sooner-left (a .model .now) (a .task) (a .job) (omega arith) (λ z. c .if2 .left (omega arith))
 
 pub is-sooner-spec : {M : Type 1} → statement M
 is-sooner-spec =

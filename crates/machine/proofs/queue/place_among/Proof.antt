@@ -44,8 +44,8 @@ returns c = let a = c .before .before .before .before .before .before .args in
     let l = c .before .before .before .before .loop in
     let q = queueOf (a .t3) (a .count) in
     let e = queue-length (a .t3) (a .count) (omega arith) in
-    let at = ap (beats (decode (a .table .now)) (a .task)) (queue-at (a .t3) (a .count) (l .k) (omega arith)) in
-    placed-at (decode (a .table .now)) (a .task) noneThere q (l .k) (l .inv) (omega arith) (at ∙ sym (beats-in (a .table .now) (c .before .before .before .before .before .before .pre .0) (a .task) _) ∙ sym (c .before .beats .ensures) ∙ c .if1 .taken)
+    let at = ap (beats (decode (a .model .now)) (a .task)) (queue-at (a .t3) (a .count) (l .k) (omega arith)) in
+    placed-at (decode (a .model .now)) (a .task) noneThere q (l .k) (l .inv) (omega arith) (at ∙ sym (beats-in (a .model .now) (c .before .before .before .before .before .before .pre .0) (a .task) _) ∙ sym (c .before .beats .ensures) ∙ c .if1 .taken)
 
 -- src/queue.rt:152:9
 add-k : tie.Need-add-k Inv-loop μ-loop
@@ -61,8 +61,8 @@ loop-again c = let a = c .before .before .before .before .before .before .args i
     let l = c .before .before .before .before .loop in
     let q = queueOf (a .t3) (a .count) in
     let e = queue-length (a .t3) (a .count) (omega arith) in
-    let at = ap (beats (decode (a .table .now)) (a .task)) (queue-at (a .t3) (a .count) (l .k) (omega arith)) in
-    sought-more _ noneThere q (l .k) (l .inv) (omega arith) (at ∙ sym (beats-in (a .table .now) (c .before .before .before .before .before .before .pre .0) (a .task) _) ∙ sym (c .before .beats .ensures) ∙ c .if1 .left)
+    let at = ap (beats (decode (a .model .now)) (a .task)) (queue-at (a .t3) (a .count) (l .k) (omega arith)) in
+    sought-more _ noneThere q (l .k) (l .inv) (omega arith) (at ∙ sym (beats-in (a .model .now) (c .before .before .before .before .before .before .pre .0) (a .task) _) ∙ sym (c .before .beats .ensures) ∙ c .if1 .left)
 
 -- src/queue.rt:143:1
 returns-2 : tie.Need-returns-2 Inv-loop μ-loop
@@ -70,7 +70,7 @@ returns-2 c = let a = c .before .before .before .args in
     let l = c .before .loop in
     let q = queueOf (a .t3) (a .count) in
     let e = queue-length (a .t3) (a .count) (omega arith) in
-    placed-last (decode (a .table .now)) (a .task) noneThere q (l .k) (l .inv) (omega arith)
+    placed-last (decode (a .model .now)) (a .task) noneThere q (l .k) (l .inv) (omega arith)
 
 pub place-among-spec : {M : Type 1} → statement M
 place-among-spec =

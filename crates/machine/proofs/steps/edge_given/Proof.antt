@@ -14,9 +14,9 @@ use Rattle.machine.proofs.clocks.guard_holds.Reads as guard-holds-reads
 use Rattle.machine.proofs.clocks.reset.Reads as reset-reads
 use Rattle.machine.proofs.steps.moved.Reads as moved-reads
 use Rattle.machine.proofs.steps.refused.Reads as refused-reads
-use Rattle.parts.proofs.counts.edges.Reads as edges-reads
-use Rattle.parts.proofs.from.Reads as from-reads
-use Rattle.parts.proofs.to.Reads as to-reads
+use Rattle.model_table.proofs.counts.edges.Reads as edges-reads
+use Rattle.model_table.proofs.from.Reads as from-reads
+use Rattle.model_table.proofs.to.Reads as to-reads
 
 -- src/steps.rt:138:9
 refused-requires : tie.Need-refused-requires
@@ -25,9 +25,9 @@ refused-requires c κs = search needs
 -- src/steps.rt:138:9
 returns : tie.Need-returns
 returns c = let b = c .before .before .before in
-    let t = b .args .table .now in
+    let t = b .args .model .now in
     let s = b .args .state in
-    let g = b .pre .given in
+    let g = b .pre .table in
     let w = b .pre .lendable in
     let n = b .args .number in
     c .refused .ensures ∙ edge-unknown t g s w n (λ h. absurd (omega arith))
@@ -43,9 +43,9 @@ refused-requires-2 c κs = search needs
 -- src/steps.rt:141:9
 returns-2 : tie.Need-returns-2
 returns-2 c = let b = c .before .before .before .before .before in
-    let t = b .args .table .now in
+    let t = b .args .model .now in
     let s = b .args .state in
-    let g = b .pre .given in
+    let g = b .pre .table in
     let w = b .pre .lendable in
     let n = b .args .number in
     let e = c .before .before .edges .ensures in
@@ -62,9 +62,9 @@ refused-requires-3 c κs = search needs
 -- src/steps.rt:144:9
 returns-3 : tie.Need-returns-3
 returns-3 c = let b = c .before .before .before .before .before .before .before .before in
-    let t = b .args .table .now in
+    let t = b .args .model .now in
     let s = b .args .state in
-    let g = b .pre .given in
+    let g = b .pre .table in
     let w = b .pre .lendable in
     let n = b .args .number in
     let e = c .before .before .before .before .before .edges .ensures in
@@ -89,14 +89,14 @@ moved-requires c κs = search needs
 -- src/steps.rt:149:9
 returns-4 : tie.Need-returns-4
 returns-4 c = let b = c .before .before .before .before .before .before .before .before .before .before .before .before .before in
-    let t = b .args .table .now in
+    let t = b .args .model .now in
     let s = b .args .state in
-    let g = b .pre .given in
+    let g = b .pre .table in
     let w = b .pre .lendable in
     let n = b .args .number in
     let e = c .before .before .before .before .before .before .before .before .before .before .edges .ensures in
     c .moved .ensures ∙ ap₂ (movedSaid (decode t) s) (c .before .to .ensures) (c .before .before .before .before .reset .ensures)
-    ∙ edge-moved t g s w n (omega arith) (omega arith) (sym (c .before .before .before .before .before .before .before .before .from .ensures) ∙ c .before .before .before .before .before .before .if3 .left) (sym (c .before .before .before .guard-holds .ensures) ∙ c .before .before .if4 .taken)
+    ∙ edge-moved t g s w n (omega (arith, c .before .before .before .before .before .before .before .before .before .before .before .if1 .left)) (omega arith) (sym (c .before .before .before .before .before .before .before .before .from .ensures) ∙ c .before .before .before .before .before .before .if3 .left) (sym (c .before .before .before .guard-holds .ensures) ∙ c .before .before .if4 .taken)
 
 -- src/steps.rt:151:5
 refused-requires-4 : tie.Need-refused-requires-4
@@ -105,9 +105,9 @@ refused-requires-4 c κs = search needs
 -- src/steps.rt:133:1
 returns-5 : tie.Need-returns-5
 returns-5 c = let b = c .before .before .before .before .before .before .before .before .before .before .before .before in
-    let t = b .args .table .now in
+    let t = b .args .model .now in
     let s = b .args .state in
-    let g = b .pre .given in
+    let g = b .pre .table in
     let w = b .pre .lendable in
     let n = b .args .number in
     let e = c .before .before .before .before .before .before .before .before .before .edges .ensures in

@@ -16,7 +16,7 @@ use Rattle.machine.proofs.steps.start_given.Tie as tie
 use Rattle.machine.proofs.steps.start_given.Reads as reads
 use Rattle.machine.proofs.steps.start_given.Lts as lts
 use Rattle.machine.proofs.queue.release.Reads as release-reads
-use Rattle.parts.proofs.released.Reads as released-reads
+use Rattle.model_table.proofs.released.Reads as released-reads
 
 -- src/steps.rt:168:39
 released-requires : tie.Need-released-requires
@@ -28,14 +28,14 @@ release-requires c κs = (c .before .before .pre, omega arith, young-none)
 
 -- src/steps.rt:174:16
 cast-t8 : tie.Need-cast-t8
-cast-t8 c = let t = c .before .before .before .before .before .args .table .now in
+cast-t8 c = let t = c .before .before .before .before .before .args .model .now in
     let k : c .before .before .release .result .count ≤ 1 = subst (λ (q : Queue). q .count ≤ 1) (sym (c .before .before .release .ensures)) (released-few (decode t) (c .before .before .before .released .result) (record { jobs = replicate 6 noJob; count = 0; overflowed = false })) in
     record { fits = omega arith }
 
 -- src/steps.rt:154:1
 returns : tie.Need-returns
 returns c = let b = c .before .before .before .before .before in
-    let t = b .args .table .now in
+    let t = b .args .model .now in
     let r = released-by t (b .pre) 1 _ (c .before .before .before .released .ensures) (replicate 6 noJob) 0 refl refl _ (c .before .before .release .ensures) in
     ap went (start-held (decode t) _ _ (r .jobs (start-free (decode t))) (r .count (start-free (decode t))))
 

@@ -3,16 +3,15 @@ use mathlib.Core.Path.{_≡_, refl, sym, _∙_, ap, ap₂, subst}
 use mathlib.Core.List.{List, map}
 use native.Mathlib.Omega.{arith}
 use Rattle.meaning.specs.Text.ModelTable.{decode}
-use Rattle.parts.proofs.PartLaws.{work-small, deadline-small}
+use Rattle.model_table.proofs.PartLaws.{work-small, deadline-small}
 use Rattle.machine.proofs.LendLaws.{lent-young, lent-few, lent-small, lent-jobs, lent-count}
 use lib.ListN.{take, getD}
 use lib.Dec.{leb}
 use mathlib.Core.Bool.{Bool}
 use Rattle.meaning.specs.Lists.{every}
 use Rattle.meaning.specs.Machine.Tick.{limitTest}
-use Rattle.meaning.proofs.Text.ModelTheorems.{given-right}
-use Rattle.parts.specs.Parts.{limitsOf}
-use Rattle.parts.proofs.PartLaws.{clocks-is}
+use Rattle.model_table.specs.Parts.{limitsOf}
+use Rattle.model_table.proofs.PartLaws.{clocks-is}
 use Rattle.machine.specs.Stands.{clockMost, padded}
 use Rattle.machine.specs.ByCell.{allTo}
 use Rattle.machine.proofs.StepLaws.{tick-allowed, tick-within, tick-answered, tick-ended, tick-broken}
@@ -26,7 +25,7 @@ use Rattle.machine.proofs.clocks.limits_met.Reads as limits-met-reads
 use Rattle.machine.proofs.steps.refused.Reads as refused-reads
 use Rattle.machine.proofs.steps.ticked.Reads as ticked-reads
 use Rattle.machine.proofs.steps.within_end.Reads as within-end-reads
-use Rattle.parts.proofs.clocks.Reads as clocks-reads
+use Rattle.model_table.proofs.clocks.Reads as clocks-reads
 
 -- src/steps.rt:91:30
 clocks-requires : tie.Need-clocks-requires
@@ -39,12 +38,12 @@ cast-grow c = search needs
 -- src/steps.rt:91:9
 grow-requires : tie.Need-grow-requires
 grow-requires c κs = let b = c .before .before .before in
-    let t = b .args .table .now in
+    let t = b .args .model .now in
     let s = b .args .state in
-    let g = b .pre .given in
+    let g = b .pre .table in
     let w = b .pre .lendable in
     let k = c .clocks2 .ensures ∙ clocks-is t g in
-    (omega (arith, given-right t g .clocks), lent-small t g s w)
+    (omega (arith, g .right .clocks), lent-small t g s w)
 
 -- src/steps.rt:92:8
 limits-met-requires : tie.Need-limits-met-requires
@@ -57,9 +56,9 @@ within-end-requires c κs = search needs
 -- src/steps.rt:94:13
 ticked-requires : tie.Need-ticked-requires
 ticked-requires c κs = let b = c .before .before .before .before .before .before .before .before in
-    let t = b .args .table .now in
+    let t = b .args .model .now in
     let s = b .args .state in
-    let g = b .pre .given in
+    let g = b .pre .table in
     let w = b .pre .lendable in
     let k = c .before .before .before .before .before .clocks2 .ensures ∙ clocks-is t g in
     let z : c .before .before .before .before .grow .result ≡ padded 0 4 (map suc (take (decode t .clocks) (s .clocks))) = c .before .before .before .before .grow .ensures ∙ ap (λ (n : ℕ). padded 0 4 (map suc (take n (s .clocks)))) k in
@@ -68,9 +67,9 @@ ticked-requires c κs = let b = c .before .before .before .before .before .befor
 -- src/steps.rt:94:13
 returns : tie.Need-returns
 returns c = let b = c .before .before .before .before .before .before .before .before .before in
-    let t = b .args .table .now in
+    let t = b .args .model .now in
     let s = b .args .state in
-    let g = b .pre .given in
+    let g = b .pre .table in
     let w = b .pre .lendable in
     let k = c .before .before .before .before .before .before .clocks2 .ensures ∙ clocks-is t g in
     let z : c .before .before .before .before .before .grow .result ≡ padded 0 4 (map suc (take (decode t .clocks) (s .clocks))) = c .before .before .before .before .before .grow .ensures ∙ ap (λ (n : ℕ). padded 0 4 (map suc (take n (s .clocks)))) k in
@@ -85,9 +84,9 @@ refused-requires c κs = search needs
 -- src/steps.rt:96:9
 returns-2 : tie.Need-returns-2
 returns-2 c = let b = c .before .before .before .before .before .before .before .before .before in
-    let t = b .args .table .now in
+    let t = b .args .model .now in
     let s = b .args .state in
-    let g = b .pre .given in
+    let g = b .pre .table in
     let w = b .pre .lendable in
     let k = c .before .before .before .before .before .before .clocks2 .ensures ∙ clocks-is t g in
     let z : c .before .before .before .before .before .grow .result ≡ padded 0 4 (map suc (take (decode t .clocks) (s .clocks))) = c .before .before .before .before .before .grow .ensures ∙ ap (λ (n : ℕ). padded 0 4 (map suc (take n (s .clocks)))) k in
@@ -102,9 +101,9 @@ refused-requires-2 c κs = search needs
 -- src/steps.rt:86:1
 returns-3 : tie.Need-returns-3
 returns-3 c = let b = c .before .before .before .before .before .before .before in
-    let t = b .args .table .now in
+    let t = b .args .model .now in
     let s = b .args .state in
-    let g = b .pre .given in
+    let g = b .pre .table in
     let w = b .pre .lendable in
     let k = c .before .before .before .before .clocks2 .ensures ∙ clocks-is t g in
     let z : c .before .before .before .grow .result ≡ padded 0 4 (map suc (take (decode t .clocks) (s .clocks))) = c .before .before .before .grow .ensures ∙ ap (λ (n : ℕ). padded 0 4 (map suc (take n (s .clocks)))) k in

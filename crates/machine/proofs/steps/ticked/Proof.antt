@@ -3,7 +3,7 @@ use mathlib.Core.Path.{_≡_, refl, sym, _∙_, ap, ap₂, subst}
 use mathlib.Core.List.{List, map}
 use native.Mathlib.Omega.{arith}
 use Rattle.meaning.specs.Text.ModelTable.{decode}
-use Rattle.parts.proofs.PartLaws.{work-small, deadline-small}
+use Rattle.model_table.proofs.PartLaws.{work-small, deadline-small}
 use Rattle.machine.proofs.LendLaws.{lent-young, lent-few, lent-small, lent-jobs, lent-count}
 use Rattle.machine.specs.Promise.{went, missed}
 use Rattle.machine.specs.declared.State.{State}
@@ -25,18 +25,18 @@ cast-count c = search needs
 -- src/steps.rt:63:9
 finishes-requires : tie.Need-finishes-requires
 finishes-requires c κs = let b = c .before .before .before in
-    let t = b .args .table .now in
+    let t = b .args .model .now in
     let s = b .args .state in
-    let g = b .pre .0 .given in
+    let g = b .pre .0 .table in
     let w = b .pre .0 .lendable in
     (g, lent-few t g s w, lent-young t g s w (work-small t g) (deadline-small t g))
 
 -- src/steps.rt:64:9
 serve-requires : tie.Need-serve-requires
 serve-requires c κs = let b = c .before .before .before .before in
-    let t = b .args .table .now in
+    let t = b .args .model .now in
     let s = b .args .state in
-    let g = b .pre .0 .given in
+    let g = b .pre .0 .table in
     let w = b .pre .0 .lendable in
     (lent-few t g s w, lent-young t g s w (work-small t g) (deadline-small t g))
 
@@ -47,27 +47,27 @@ left-requires c κs = search needs
 -- src/steps.rt:66:9
 first-late-requires : tie.Need-first-late-requires
 first-late-requires c κs = let b = c .before .before .before .before .before .before in
-    let t = b .args .table .now in
+    let t = b .args .model .now in
     let s = b .args .state in
-    let g = b .pre .0 .given in
+    let g = b .pre .0 .table in
     let w = b .pre .0 .lendable in
     (g, left-few t g s w _ _ _ (c .before .serve .ensures) (c .left .ensures))
 
 -- src/steps.rt:71:16
 cast-t11 : tie.Need-cast-t11
 cast-t11 c = let b = c .before .before .before .before .before .before .before in
-    let t = b .args .table .now in
+    let t = b .args .model .now in
     let s = b .args .state in
-    let g = b .pre .0 .given in
+    let g = b .pre .0 .table in
     let w = b .pre .0 .lendable in
     record { fits = omega (arith, left-few t g s w _ _ _ (c .before .before .serve .ensures) (c .before .left .ensures)) }
 
 -- src/steps.rt:74:9
 returns : tie.Need-returns
 returns c = let b = c .before .before .before .before .before .before .before .before in
-    let t = b .args .table .now in
+    let t = b .args .model .now in
     let s = b .args .state in
-    let g = b .pre .0 .given in
+    let g = b .pre .0 .table in
     let w = b .pre .0 .lendable in
     let f = c .before .before .before .before .finishes .ensures in
     let e = c .before .before .before .serve .ensures in
@@ -79,9 +79,9 @@ returns c = let b = c .before .before .before .before .before .before .before .b
 -- src/steps.rt:57:1
 returns-2 : tie.Need-returns-2
 returns-2 c = let b = c .before .before .before .before .before .before .before .before in
-    let t = b .args .table .now in
+    let t = b .args .model .now in
     let s = b .args .state in
-    let g = b .pre .0 .given in
+    let g = b .pre .0 .table in
     let w = b .pre .0 .lendable in
     let f = c .before .before .before .before .finishes .ensures in
     let e = c .before .before .before .serve .ensures in

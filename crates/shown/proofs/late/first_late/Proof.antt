@@ -8,10 +8,10 @@ use lib.ListN.{length, getD}
 use mir.Syntax.{w32}
 use mir.Val.{SFits}
 use Rattle.meaning.specs.Text.ModelTable.{clocks}
-use Rattle.parts.specs.Parts.{deadlineIn}
+use Rattle.model_table.specs.Parts.{deadlineIn}
 use Rattle.bounds.proofs.Signed as S
 use Rattle.bounds.proofs.Signed.{signed, fits-make}
-use Rattle.matrix.proofs.RangeLaws.{clocks-small, deadline-small}
+use Rattle.step_bounds.proofs.RangeLaws.{clocks-small, deadline-small}
 use Rattle.shown.proofs.LateLaws.{Age, OnTime, on-time-next, age-asks, first-here, none-late}
 use Rattle.shown.proofs.late.first_late.Statement.{statement}
 use Rattle.shown.proofs.late.first_late.Tie as tie
@@ -47,8 +47,8 @@ module _ (c : tie.After-off2 Inv-loop μ-loop) where
 
   low : c .before .before .before .before .before .clocks .result ≤ 4
   low =
-      let e : c .before .before .before .before .before .clocks .result ≡ clocks (start .args .table .now) = c .before .before .before .before .before .clocks .ensures in
-      omega (arith, clocks-small (start .args .table .now) (start .pre .0))
+      let e : c .before .before .before .before .before .clocks .result ≡ clocks (start .args .model .now) = c .before .before .before .before .before .clocks .ensures in
+      omega (arith, clocks-small (start .args .model .now) (start .pre .0))
 
 add-reached : tie.Need-add-reached Inv-loop μ-loop
 add-reached c = omega (arith, low c)
@@ -65,7 +65,7 @@ reached-requires c κs =
     let b = s .pre .1 in
     let k = c .before .before .before .before .loop .k in
     let n = c .before .before .before .before .before .clocks .result in
-    let a = rw (sym (c .before .before .before .before .before .clocks .ensures)) at (age-asks (s .args .table .now) (s .pre .0) (s .args .t) (s .args .plan) (six c) (b .zone) (b .step) (b .drawn) k (omega arith)) in
+    let a = rw (sym (c .before .before .before .before .before .clocks .ensures)) at (age-asks (s .args .model .now) (s .pre .0) (s .args .t) (s .args .plan) (six c) (b .zone) (b .step) (b .drawn) k (omega arith)) in
     ((a .0, omega arith), ((a .1, a .2), ((a .3, a .4), b .drawn .narrowed .ready (b .drawn .some) .entries)))
 
 mul-deadline : tie.Need-mul-deadline Inv-loop μ-loop
@@ -80,18 +80,18 @@ deadline-requires c κs = tt
 cast-d : tie.Need-cast-d Inv-loop μ-loop
 cast-d c =
     let s = start (c .before .before) in
-    fits-make (omega (arith, deadline-small (s .args .table .now) (s .pre .0) (getD (s .args .plan .tasks) (c .before .before .before .before .before .before .loop .k) 0), c .deadline .ensures)) (omega arith)
+    fits-make (omega (arith, deadline-small (s .args .model .now) (s .pre .0) (getD (s .args .plan .tasks) (c .before .before .before .before .before .before .loop .k) 0), c .deadline .ensures)) (omega arith)
 
 -- the entry that was read, and D
 module _ (c : tie.After-deadline Inv-loop μ-loop) where
   entry-fits : SFits w32 (c .before .reached .result)
   entry-fits = record { sfits = c .before .reached .ok }
 
-  deadline-of : let s = start (c .before .before) in c .deadline .result ≡ deadlineIn (s .args .table .now) (getD (s .args .plan .tasks) (c .before .before .before .before .before .before .loop .k) 0)
+  deadline-of : let s = start (c .before .before) in c .deadline .result ≡ deadlineIn (s .args .model .now) (getD (s .args .plan .tasks) (c .before .before .before .before .before .before .loop .k) 0)
   deadline-of = c .deadline .ensures
 
   age : let s = start (c .before .before) in
-      Age (s .args .t .m) (s .args .plan .from) (s .args .plan .off) (clocks (s .args .table .now)) (c .before .before .before .before .before .before .loop .k) (c .before .reached .result)
+      Age (s .args .t .m) (s .args .plan .from) (s .args .plan .off) (clocks (s .args .model .now)) (c .before .before .before .before .before .before .loop .k) (c .before .reached .result)
   age = let d = c .before .before in record { is = rw (sym (d .before .before .before .before .before .clocks .ensures)) (c .before .reached .ensures) }
 
 cast-result : tie.Need-cast-result Inv-loop μ-loop
@@ -106,7 +106,7 @@ returns c =
     let s = start (g .before .before) in
     let l = g .before .before .before .before .before .before .loop in
     let D = deadline-of g in
-    λ z st d. first-here (s .args .table .now) (s .pre .0) (s .args .t) (s .args .plan) (six (g .before .before)) z st d (l .k) (omega arith) (l .inv .1) (g .before .reached .result) (age g)
+    λ z st d. first-here (s .args .model .now) (s .pre .0) (s .args .t) (s .args .plan) (six (g .before .before)) z st d (l .k) (omega arith) (l .inv .1) (g .before .reached .result) (age g)
     (omega (signed, S.at (cast-d g), S.at (entry-fits g)))
 
 add-k : tie.Need-add-k Inv-loop μ-loop
@@ -122,7 +122,7 @@ loop-again c =
     let l = g .before .before .before .before .before .before .loop in
     let D = deadline-of g in (
       omega arith,
-      on-time-next (s .args .table .now) (s .args .t .m) (s .args .plan .from) (s .args .plan .off) (s .args .plan .tasks) (clocks (s .args .table .now)) (l .k) (l .inv .1)
+      on-time-next (s .args .model .now) (s .args .t .m) (s .args .plan .from) (s .args .plan .off) (s .args .plan .tasks) (clocks (s .args .model .now)) (l .k) (l .inv .1)
           (record { entry = g .before .reached .result; age = age g; below = omega (signed, S.at (cast-d g), S.at (entry-fits g)) }),
     )
 
@@ -131,7 +131,7 @@ returns-2 c =
     let s = c .before .before .before .before .before .before .before .before .before in
     let six : length (s .args .plan .tasks) ≡ 6 = search needs in
     let l = c .before .loop in
-    λ z st d. none-late (s .args .table .now) (s .pre .0) (s .args .t) (s .args .plan) six z st d (λ i h. l .inv .1 i (omega arith))
+    λ z st d. none-late (s .args .model .now) (s .pre .0) (s .args .t) (s .args .plan) six z st d (λ i h. l .inv .1 i (omega arith))
 
 pub first-late-spec : {M : Type 1} → statement M
 first-late-spec =

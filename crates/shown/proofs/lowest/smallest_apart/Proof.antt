@@ -9,11 +9,10 @@ use lib.IntN.{negℤ}
 use Rattle.meaning.specs.Text.ModelTable.{decode}
 use Rattle.meaning.specs.Text.RightModel.{RightModel}
 use Rattle.meaning.proofs.Numbers.{shift}
-use Rattle.meaning.proofs.Text.ModelTheorems.{given-right}
 use Rattle.meaning.proofs.Exact.Bounds.{bound}
 use Rattle.bounds.specs.Matrix.{ent, Size}
 use Rattle.bounds.specs.Images.{var}
-use Rattle.matrix.specs.Narrowed.{Narrows}
+use Rattle.step_bounds.specs.Narrowed.{Narrows}
 use Rattle.shown.proofs.SumLaws.{first-fits, both-fits, both-back, both-small}
 use Rattle.shown.proofs.StateLaws.{plan-few, plan-into, plan-size}
 use Rattle.shown.proofs.LowestLaws.{apart-some, lowest-apart, apart-shown}
@@ -22,17 +21,17 @@ use Rattle.shown.proofs.lowest.smallest_apart.Tie as tie
 
 -- what is known of the plan
 module _ (s : tie.Start) where
-  right : RightModel (decode (s .args .table .now))
-  right = given-right (s .args .table .now) (s .pre .0)
+  right : RightModel (decode (s .args .model .now))
+  right = s .pre .0 .right
 
   few : s .args .plan .variables ≤ 17
-  few = let d = s .pre .1 .1 .1 in plan-few (decode (s .args .table .now)) (d .zone) (d .step) (s .args .plan) (d .drawn .planned) right
+  few = let d = s .pre .1 .1 .1 in plan-few (decode (s .args .model .now)) (d .zone) (d .step) (s .args .plan) (d .drawn .planned) right
 
   into : (a : ℕ) → a < s .args .plan .variables → var (s .args .plan .from) a < 17
-  into = let d = s .pre .1 .1 .1 in plan-into (decode (s .args .table .now)) (d .zone) (d .step) (s .args .plan) (d .drawn .planned) (d .drawn .few)
+  into = let d = s .pre .1 .1 .1 in plan-into (decode (s .args .model .now)) (d .zone) (d .step) (s .args .plan) (d .drawn .planned) (d .drawn .few)
 
   size : (a : ℕ) → a < s .args .plan .variables → Size (ent (s .args .plan .off) a) 100000
-  size = let d = s .pre .1 .1 .1 in plan-size (decode (s .args .table .now)) (d .zone) (d .step) (s .args .plan) (d .drawn .planned) right
+  size = let d = s .pre .1 .1 .1 in plan-size (decode (s .args .model .now)) (d .zone) (d .step) (s .args .plan) (d .drawn .planned) right
 
 mul-narrow : tie.Need-mul-narrow
 mul-narrow c = let s = c .before .before .before in let f = few s in omega (arith, s .pre .1 .0 .1)
@@ -102,7 +101,7 @@ module _ (c : tie.After-narrow) where
   some =
       let s = c .before .before .before .before .before .before in
       let d = s .pre .1 .1 .1 in
-      apart-some (decode (s .args .table .now)) (d .zone) (d .step) (s .args .t) (s .args .plan) (d .drawn) (s .args .i) (s .args .j) (s .args .c) (s .pre .1 .0 .0) (s .pre .1 .0 .1)
+      apart-some (decode (s .args .model .now)) (d .zone) (d .step) (s .args .t) (s .args .plan) (d .drawn) (s .args .i) (s .args .j) (s .args .c) (s .pre .1 .0 .0) (s .pre .1 .0 .1)
       (c .narrow .result) narrows (d .at) (d .source) (d .apart)
 
 least-requires : tie.Need-least-requires
@@ -117,7 +116,7 @@ shown-state-requires c κs =
     let s = n .before .before .before .before .before .before in
     let d = s .pre .1 .1 .1 in (
       s .pre .0,
-      apart-shown (decode (s .args .table .now)) (d .zone) (d .step) (s .args .t) (s .args .plan) (d .drawn) (s .args .i) (s .args .j) (s .args .c) (s .pre .1 .0 .0) (s .pre .1 .0 .1)
+      apart-shown (decode (s .args .model .now)) (d .zone) (d .step) (s .args .t) (s .args .plan) (d .drawn) (s .args .i) (s .args .j) (s .args .c) (s .pre .1 .0 .0) (s .pre .1 .0 .1)
           (n .narrow .result) (narrows n) (some n) (c .least .result) (c .least .ensures),
     )
 
@@ -127,7 +126,7 @@ returns c =
     let s = n .before .before .before .before .before .before in
     let x = c .before .least in
     (λ z st d.
-    let l = lowest-apart (decode (s .args .table .now)) z st (s .args .t) (s .args .plan) d (s .args .i) (s .args .j) (s .args .c) (s .pre .1 .0 .0) (s .pre .1 .0 .1)
+    let l = lowest-apart (decode (s .args .model .now)) z st (s .args .t) (s .args .plan) d (s .args .i) (s .args .j) (s .args .c) (s .pre .1 .0 .0) (s .pre .1 .0 .1)
     (n .narrow .result) (narrows n) (some n) (x .result) (x .ensures) in
     record { at = _; lowest = l; is = c .shown-state .ensures z st (d .ranged) (d .planned) (l .is .0) })
 

@@ -6,7 +6,7 @@ use native.Mathlib.Omega.{arith}
 use borrow.Author.Needs.{needs}
 use Rattle.meaning.proofs.Exact.Loops.{sumAhead}
 use Rattle.bounds.specs.Images.{var}
-use Rattle.matrix.proofs.NumberLaws.{ahead-below}
+use Rattle.step_bounds.proofs.NumberLaws.{ahead-below}
 use Rattle.shown.proofs.state.job_at.Statement.{statement}
 use Rattle.shown.proofs.state.job_at.Tie as tie
 

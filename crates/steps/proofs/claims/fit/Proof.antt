@@ -13,8 +13,8 @@ use Rattle.steps.proofs.claims.fit.Statement.{statement}
 use Rattle.steps.proofs.claims.fit.Tie as tie
 use Rattle.steps.proofs.claims.fit.Reads as reads
 use Rattle.steps.proofs.claims.fit.Lts as lts
-use Rattle.parts.proofs.cells.cell.Reads as cell-reads
-use Rattle.parts.proofs.cells.less_one.Reads as less-one-reads
+use Rattle.model_table.proofs.cells.cell.Reads as cell-reads
+use Rattle.model_table.proofs.cells.less_one.Reads as less-one-reads
 use Rattle.steps.proofs.claims.queued.Reads as queued-reads
 
 abbrev Inv-loop : tie.InvT-loop

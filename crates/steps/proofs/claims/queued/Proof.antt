@@ -11,8 +11,8 @@ use Rattle.steps.proofs.claims.queued.Statement.{statement}
 use Rattle.steps.proofs.claims.queued.Tie as tie
 use Rattle.steps.proofs.claims.queued.Reads as reads
 use Rattle.steps.proofs.claims.queued.Lts as lts
-use Rattle.parts.proofs.cells.cell.Reads as cell-reads
-use Rattle.parts.proofs.cells.less_one.Reads as less-one-reads
+use Rattle.model_table.proofs.cells.cell.Reads as cell-reads
+use Rattle.model_table.proofs.cells.less_one.Reads as less-one-reads
 
 abbrev Inv-loop : tie.InvT-loop
 Inv-loop table from n task k₀ k = (k ≤ n) × (elem task (numbersIn table from n) ≡ elem task (rest table from n k))

@@ -4,8 +4,8 @@ use Prim.Native.Nat.{ℕ, _+_, _-_, _*_}
 use mathlib.Core.Path.{sym, ap, _∙_}
 use native.Mathlib.Omega.{arith}
 use Rattle.meaning.specs.Text.ModelTable.{decode}
-use Rattle.parts.specs.Parts.{edgeOf, releasedIn, toIn}
-use Rattle.parts.proofs.PartLaws.{released-is}
+use Rattle.model_table.specs.Parts.{edgeOf, releasedIn, toIn}
+use Rattle.model_table.proofs.PartLaws.{released-is}
 use Rattle.steps.specs.Counted.{headIn}
 use Rattle.steps.proofs.Laws.Sharing.{share-other, share-nothing, share-queued, share-new}
 use Rattle.steps.proofs.Laws.Walking.{numbers-length}
@@ -14,11 +14,11 @@ use Rattle.steps.proofs.claims.share_of.Statement.{statement}
 use Rattle.steps.proofs.claims.share_of.Tie as tie
 use Rattle.steps.proofs.claims.share_of.Reads as reads
 use Rattle.steps.proofs.claims.share_of.Lts as lts
-use Rattle.parts.proofs.cells.cell.Reads as cell-reads
-use Rattle.parts.proofs.cells.less_one.Reads as less-one-reads
-use Rattle.parts.proofs.from.Reads as from-reads
-use Rattle.parts.proofs.released.Reads as released-reads
-use Rattle.parts.proofs.to.Reads as to-reads
+use Rattle.model_table.proofs.cells.cell.Reads as cell-reads
+use Rattle.model_table.proofs.cells.less_one.Reads as less-one-reads
+use Rattle.model_table.proofs.from.Reads as from-reads
+use Rattle.model_table.proofs.released.Reads as released-reads
+use Rattle.model_table.proofs.to.Reads as to-reads
 use Rattle.steps.proofs.claims.queued.Reads as queued-reads
 
 from-requires : tie.Need-from-requires

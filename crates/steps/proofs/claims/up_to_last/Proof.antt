@@ -10,8 +10,8 @@ use Rattle.steps.proofs.claims.up_to_last.Statement.{statement}
 use Rattle.steps.proofs.claims.up_to_last.Tie as tie
 use Rattle.steps.proofs.claims.up_to_last.Reads as reads
 use Rattle.steps.proofs.claims.up_to_last.Lts as lts
-use Rattle.parts.proofs.cells.cell.Reads as cell-reads
-use Rattle.parts.proofs.cells.less_one.Reads as less-one-reads
+use Rattle.model_table.proofs.cells.cell.Reads as cell-reads
+use Rattle.model_table.proofs.cells.less_one.Reads as less-one-reads
 
 abbrev Inv-loop : tie.InvT-loop
 Inv-loop table from n last k₀ k = (k ≤ n) × (noneAbove last (numbersIn table from n) ≡ noneAbove last (rest table from n k))

@@ -4,7 +4,7 @@ use Prim.Native.Nat.{_+_, _-_, _*_, _≤_}
 use mathlib.Core.Path.{sym}
 use native.Mathlib.Omega.{arith}
 use Rattle.meaning.specs.Text.ModelTable.{decode}
-use Rattle.parts.proofs.PartLaws.{edges-is}
+use Rattle.model_table.proofs.PartLaws.{edges-is}
 use Rattle.steps.specs.Counted.{headIn}
 use Rattle.steps.proofs.Laws.Walking.{Walking, walking-first, walking-edge, walking-last, numbers-length}
 use borrow.Author.Needs.{needs}
@@ -12,8 +12,8 @@ use Rattle.steps.proofs.claims.walk.Statement.{statement}
 use Rattle.steps.proofs.claims.walk.Tie as tie
 use Rattle.steps.proofs.claims.walk.Reads as reads
 use Rattle.steps.proofs.claims.walk.Lts as lts
-use Rattle.parts.proofs.cells.cell.Reads as cell-reads
-use Rattle.parts.proofs.counts.edges.Reads as edges-reads
+use Rattle.model_table.proofs.cells.cell.Reads as cell-reads
+use Rattle.model_table.proofs.counts.edges.Reads as edges-reads
 use Rattle.steps.proofs.claims.held.Reads as held-reads
 use Rattle.steps.proofs.claims.share_of.Reads as share-of-reads
 

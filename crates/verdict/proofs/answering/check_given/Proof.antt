@@ -1,23 +1,17 @@
 -- `verdict::answering::check_given` meets its contract: before each zone all obligations so far are tried, and hold.
 -- Assumes nothing.
 use mathlib.Core.Path.{sym, subst}
-use mathlib.Core.List.{List}
 use Prim.Native.Nat.{ℕ, _+_, _-_, _*_, _≤_}
 use native.Mathlib.Omega.{arith}
 use borrow.Author.Needs.{needs}
 use borrow.Author.Tests.{not-true, not-false}
-use Rattle.meaning.specs.Text.ModelReader.{Given}
 use Rattle.meaning.specs.Text.ModelTable.{decode}
-use Rattle.meaning.specs.Text.ProposalReader as reader
 use Rattle.meaning.specs.Text.ProposalTable as table
-use Rattle.zones.proofs.TestLaws.{never}
-use Rattle.verdict.specs.Answers.{Usable, Answered}
+use Rattle.step_reach.proofs.TestLaws.{never}
+use Rattle.verdict.specs.AnsweredBy.{AnsweredBy}
 use Rattle.verdict.proofs.TriedLaws.{TriedTo, tried-first, answered-start, answered-zone, zone-tried, answered-all}
 use Rattle.verdict.proofs.answering.check_given.Statement.{statement}
 use Rattle.verdict.proofs.answering.check_given.Tie as tie
-
-usable : {t u : List ℕ} → Given t × reader.Given (decode t) u → Usable t u
-usable h = record { model = h .0; proposal = h .1 }
 
 abbrev Inv-loop : tie.InvT-loop
 Inv-loop model zones many n₀ tried₀ n tried = (n ≤ many) × (tried ≤ 1 + 32767 * n) × TriedTo (decode model) (table.decode zones) n tried
@@ -38,8 +32,8 @@ returns : tie.Need-returns Inv-loop μ-loop
 returns c =
     let o = c .before .before .before .before .before .before in
     let j = c .before .before .before .try-start in
-    subst (Answered (o .args .model .now) (o .args .zones .now)) (sym (c .failed .ensures))
-    (answered-start (o .args .model .now) (o .args .zones .now) (usable (o .pre)) (j .result) (j .ensures)
+    subst (AnsweredBy (decode (o .args .model .now)) (table.decode (o .args .zones .now))) (sym (c .failed .ensures))
+    (answered-start (decode (o .args .model .now)) (o .pre .0 .right) (o .args .zones .now) (o .pre .1) (j .result) (j .ensures)
     (λ e. never (c .before .before .is-clear .ensures .1 e) (not-true _ (c .before .if1 .taken))))
 
 zones-requires : tie.Need-zones-requires Inv-loop μ-loop
@@ -73,8 +67,8 @@ returns-2 c =
     let v = c .before .before .before .before .before .before .before in
     let o = v .before .before .before .before .before .before in
     let z = c .before .before .before .before .try-zone in
-    subst (Answered (o .args .model .now) (o .args .zones .now)) (sym (c .failed2 .ensures))
-    (answered-zone (o .args .model .now) (o .args .zones .now) (usable (o .pre)) (l .n) (omega (arith, v .zones .ensures .0)) (l .tried) (l .inv .2) (z .result) (z .ensures)
+    subst (AnsweredBy (decode (o .args .model .now)) (table.decode (o .args .zones .now))) (sym (c .failed2 .ensures))
+    (answered-zone (decode (o .args .model .now)) (o .pre .0 .right) (o .args .zones .now) (o .pre .1) (l .n) (omega (arith, v .zones .ensures .0)) (l .tried) (l .inv .2) (z .result) (z .ensures)
     (λ e. never (c .before .before .is-clear2 .ensures .1 e) (not-true _ (c .before .if2 .taken))))
 
 loop-less : tie.Need-loop-less Inv-loop μ-loop
@@ -86,7 +80,7 @@ loop-again c =
     let v = c .before .before .before .before .before .before in
     let o = v .before .before .before .before .before .before in
     let z = c .before .before .before .try-zone in
-    let r = zone-tried (o .args .model .now) (o .args .zones .now) (usable (o .pre)) (l .n) (omega (arith, v .zones .ensures .0)) (l .tried) (l .inv .2) (z .result) (z .ensures)
+    let r = zone-tried (decode (o .args .model .now)) (o .pre .0 .right) (o .args .zones .now) (o .pre .1) (l .n) (omega (arith, v .zones .ensures .0)) (l .tried) (l .inv .2) (z .result) (z .ensures)
     (c .before .is-clear2 .ensures .0 (not-false _ (c .if2 .left))) (l .inv .1) in
     (omega arith, r .0, r .1)
 
@@ -98,7 +92,7 @@ returns-3 c =
     let l = c .before .before .loop in
     let v = c .before .before .before in
     let o = v .before .before .before .before .before .before in
-    answered-all (o .args .model .now) (o .args .zones .now) (usable (o .pre)) (l .n) (l .tried) (omega (arith, v .zones .ensures .0)) (l .inv .2) (c .accepted .result) (c .accepted .ensures)
+    answered-all (decode (o .args .model .now)) (o .pre .0 .right) (o .args .zones .now) (o .pre .1) (l .n) (l .tried) (omega (arith, v .zones .ensures .0)) (l .inv .2) (c .accepted .result) (c .accepted .ensures)
 
 pub check-given-spec : {M : Type 1} → statement M
 check-given-spec =

@@ -2,7 +2,7 @@
 -- Assumes nothing.
 use mathlib.Core.Path.{sym, _∙_, ap}
 use borrow.Author.Needs.{needs}
-use Rattle.zones.proofs.TestLaws.{is-so, not-so}
+use Rattle.step_reach.proofs.TestLaws.{is-so, not-so}
 use Rattle.verdict.specs.Answers.{faultOf}
 use Rattle.verdict.proofs.FoundLaws.{none-some}
 use Rattle.verdict.proofs.found.is_clear.Statement.{statement}

@@ -6,7 +6,7 @@ use native.Mathlib.Omega.{arith}
 use lib.ListN.{getD}
 use borrow.Author.Needs.{needs}
 use Rattle.meaning.specs.Text.ProposalTable.{orderSlot}
-use Rattle.zones.proofs.TestLaws.{is-so, not-so}
+use Rattle.step_reach.proofs.TestLaws.{is-so, not-so}
 use Rattle.verdict.proofs.HomeLaws.{task-at, same-task}
 use Rattle.verdict.proofs.home.same_home.Statement.{statement}
 use Rattle.verdict.proofs.home.same_home.Tie as tie

@@ -5,7 +5,6 @@ use Prim.Native.Nat.{_+_, _*_, _≤_, _<_}
 use native.Mathlib.Omega.{arith}
 use borrow.Author.Needs.{needs}
 use Rattle.meaning.specs.Text.ModelTable.{decode}
-use Rattle.meaning.proofs.Text.ModelTheorems.{given-right}
 use Rattle.bounds.specs.Claims.{cell}
 use Rattle.bounds.specs.Inner.{Claimed}
 use Rattle.shown.proofs.StateLaws.{plan-few}
@@ -17,7 +16,7 @@ module _ (s : tie.Start) where
   few : s .args .plan .variables ≤ 17
   few =
       let a = s .pre .1 .apart in
-      plan-few (decode (s .args .model .now)) (a .zone) (a .step) (s .args .plan) (a .drawn .planned) (given-right (s .args .model .now) (s .pre .0))
+      plan-few (decode (s .args .model .now)) (a .zone) (a .step) (s .args .plan) (a .drawn .planned) (s .pre .0 .right)
 
   row : s .args .i < 17
   row = omega (arith, few, s .pre .1 .row)

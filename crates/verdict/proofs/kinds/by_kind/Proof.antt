@@ -6,8 +6,7 @@ use Prim.Native.Nat.{ℕ}
 use borrow.Author.Needs.{needs}
 use Rattle.meaning.specs.Text.ModelTable.{decode}
 use Rattle.meaning.specs.Text.ProposalTable as table
-use Rattle.meaning.proofs.Text.ModelTheorems.{given-right}
-use Rattle.matrix.specs.Moves.{stepOf}
+use Rattle.step_bounds.specs.Moves.{stepOf}
 use Rattle.shown.specs.Drawn.{FirstLate}
 use Rattle.verdict.proofs.JudgeLaws.{judged-over, judged-unclaimed}
 use Rattle.verdict.proofs.kinds.by_kind.Statement.{statement}
@@ -24,7 +23,7 @@ returns c =
     let s = c .before .before .before .before .before in
     let o = c .before .before .overflows in
     λ n x z l d.
-    judged-over (decode (s .args .model .now)) (given-right (s .args .model .now) (s .pre .0 .0)) (table.decode (s .args .zones .now)) (record { number = n; place = x; zone = z; step = stepOf (s .args .step); claim = s .args .claim })
+    judged-over (decode (s .args .model .now)) (s .pre .0 .0 .right) (table.decode (s .args .zones .now)) (record { number = n; place = x; zone = z; step = stepOf (s .args .step); claim = s .args .claim })
     (s .args .t) (s .args .plan) d (sym (o .ensures z l) ∙ c .before .if1 .taken) (c .smallest .result) (c .smallest .ensures z (stepOf (s .args .step)) d)
 
 first-late-requires : tie.Need-first-late-requires
@@ -64,7 +63,7 @@ returns-3 c =
     let late : f .result ≡ 0 = (let k = c .before .before .if2 .left in omega arith) in
     let none : s .args .claim ≡ 0 = (let k = c .before .if3 .taken in omega arith) in
     λ n x z l d.
-    judged-unclaimed (decode (s .args .model .now)) (given-right (s .args .model .now) (s .pre .0 .0)) (table.decode (s .args .zones .now)) (record { number = n; place = x; zone = z; step = stepOf (s .args .step); claim = s .args .claim })
+    judged-unclaimed (decode (s .args .model .now)) (s .pre .0 .0 .right) (table.decode (s .args .zones .now)) (record { number = n; place = x; zone = z; step = stepOf (s .args .step); claim = s .args .claim })
     (s .args .t) (s .args .plan) d (sym (o .ensures z l) ∙ c .before .before .before .before .if1 .left) (f .result) (f .ensures z (stepOf (s .args .step)) d) late none
     (c .smallest2 .result) (c .smallest2 .ensures z (stepOf (s .args .step)) d)
 

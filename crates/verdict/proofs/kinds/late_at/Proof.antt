@@ -12,10 +12,10 @@ use mir.ValLaws.{toZ-pos}
 use Rattle.meaning.specs.Zones.Zone.{Zone}
 use Rattle.meaning.specs.Zones.Steps.{Step}
 use Rattle.meaning.specs.Text.ModelTable.{decode, clocks}
-use Rattle.parts.specs.Parts.{deadlineIn}
+use Rattle.model_table.specs.Parts.{deadlineIn}
 use Rattle.bounds.specs.Matrix.{Size}
 use Rattle.bounds.proofs.Signed.{fits-make}
-use Rattle.matrix.proofs.RangeLaws.{clocks-small, deadline-small}
+use Rattle.step_bounds.proofs.RangeLaws.{clocks-small, deadline-small}
 use Rattle.shown.specs.Drawn.{Drawn, ApartBy, SmallestApart}
 use Rattle.verdict.proofs.KindLaws.{late-index, late-asks, late-judged}
 use Rattle.verdict.proofs.kinds.late_at.Statement.{statement}

@@ -5,9 +5,9 @@ use mathlib.Core.Bool.{not}
 use Prim.Native.Nat.{ℕ}
 use lib.Dec.{eqb}
 use borrow.Author.Needs.{needs}
-use Rattle.parts.specs.Parts.{releasedIn}
-use Rattle.matrix.specs.declared.moves.Move.the-variants.{GoOn, Finish, Edge, EdgeAt}
-use Rattle.matrix.proofs.MoveLaws.{taskBy}
+use Rattle.model_table.specs.Parts.{releasedIn}
+use Rattle.step_bounds.specs.declared.moves.Move.the-variants.{GoOn, Finish, Edge, EdgeAt}
+use Rattle.step_bounds.proofs.MoveLaws.{taskBy}
 use Rattle.verdict.proofs.OverflowLaws.{bare-overflows, placed-overflows}
 use Rattle.verdict.proofs.overflow.overflows.Statement.{statement}
 use Rattle.verdict.proofs.overflow.overflows.Tie as tie

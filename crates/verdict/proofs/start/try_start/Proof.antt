@@ -16,8 +16,8 @@ use Rattle.verdict.proofs.start.try_start.Tie as tie
 released-requires : tie.Need-released-requires
 released-requires c κs = search needs
 
-start-requires : tie.Need-start-requires
-start-requires c κs = search needs
+start-given-requires : tie.Need-start-given-requires
+start-given-requires c κs = search needs
 
 same-home-requires : tie.Need-same-home-requires
 same-home-requires c κs =
@@ -31,7 +31,7 @@ returns c =
     let s = j .before .before .before .before in
     let w = counted-by (j .before .released .result) (j .if1 .count) (λ e. e .taken) (λ e. e .left) (j .if1 .came) in
     start-away (s .args .model .now) (s .pre .0) (s .args .zones .now) (s .pre .1) (j .before .released .result) (j .if1 .count) (j .before .released .ensures) w
-    (c .before .same-home .result) (c .before .same-home .ensures) (c .if2 .taken) (c .before .before .before .start .result) (c .before .before .before .start .ensures)
+    (c .before .same-home .result) (c .before .same-home .ensures) (c .if2 .taken) (c .before .before .before .start-given .result) (c .before .before .before .start-given .ensures)
 
 clocks-requires : tie.Need-clocks-requires
 clocks-requires c κs = search needs
@@ -95,7 +95,7 @@ returns-2 c =
     let e = f .before .before .before .before in
     let h = e .before in
     start-broken (s .args .model .now) (s .pre .0) (s .args .zones .now) (s .pre .1) (j .before .released .result) (j .if1 .count) (j .before .released .ensures) w
-    (h .same-home .result) (h .same-home .ensures) (e .if2 .left) n (omega (arith, o .ensures)) (f .first-broken .result .found) (f .first-broken .result .i) (f .first-broken .result .j) k (c .before .before .if3 .taken) (h .before .before .start .result) (h .before .before .start .ensures)
+    (h .same-home .result) (h .same-home .ensures) (e .if2 .left) n (omega (arith, o .ensures)) (f .first-broken .result .found) (f .first-broken .result .i) (f .first-broken .result .j) k (c .before .before .if3 .taken) (h .before .before .start-given .result) (h .before .before .start-given .ensures)
 
 holds-requires : tie.Need-holds-requires
 holds-requires c κs = search needs
@@ -120,7 +120,7 @@ try-start-spec =
     tie.close
     (tie.spec
     released-requires
-    start-requires
+    start-given-requires
     same-home-requires
     returns
     clocks-requires

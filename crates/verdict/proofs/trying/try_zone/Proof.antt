@@ -6,9 +6,8 @@ use native.Mathlib.Omega.{arith}
 use borrow.Author.Needs.{needs}
 use Rattle.meaning.specs.Text.ModelTable.{decode}
 use Rattle.meaning.specs.Text.ProposalTable as table
-use Rattle.meaning.proofs.Text.ModelTheorems.{given-right}
-use Rattle.zonetable.proofs.SoundGiven.{zones-few}
-use Rattle.zonetable.proofs.ZoneParts.{given-small, read-lendable}
+use Rattle.zone_table.proofs.SoundGiven.{zones-few}
+use Rattle.zone_table.proofs.ZoneParts.{given-small, read-lendable}
 use Rattle.verdict.specs.declared.answer.Found.{Found}
 use Rattle.verdict.specs.Judged.{HoldBefore, ZoneTried}
 use Rattle.verdict.proofs.PlaceLaws.{claims-many, claims-most}
@@ -27,14 +26,14 @@ zone-at-requires c κs =
     let s = c .before .before in
     let a = s .args in
     let p = s .pre .0 in
-    (p .2, omega (arith, p .3, zones-few (a .zones .now)), given-small (decode (a .model .now)) (given-right (a .model .now) (p .0)) (a .zones .now) (p .1) (a .n) (p .2) (p .3))
+    (p .2, omega (arith, p .3, zones-few (a .zones .now)), given-small (decode (a .model .now)) (p .0 .right) (a .zones .now) (p .1) (a .n) (p .2) (p .3))
 
 zone-matrix-requires : tie.Need-zone-matrix-requires Inv-loop μ-loop
 zone-matrix-requires c κs =
     let s = c .before .before .before in
     let a = s .args in
     let p = s .pre .0 in
-    (p .0, read-lendable (decode (a .model .now)) (given-right (a .model .now) (p .0)) (a .zones .now) (p .1) (a .n) (p .2) (p .3) (c .zone-at .result) (c .zone-at .ensures))
+    (p .0, read-lendable (decode (a .model .now)) (p .0 .right) (a .zones .now) (p .1) (a .n) (p .2) (p .3) (c .zone-at .result) (c .zone-at .ensures))
 
 claims-requires : tie.Need-claims-requires Inv-loop μ-loop
 claims-requires c κs =
@@ -57,7 +56,7 @@ add-number c =
     let s = k .before .before .before .before .before in
     let a = s .args in
     let p = s .pre .0 in
-    let r = given-right (a .model .now) (p .0) in
+    let r = p .0 .right in
     let most = claims-most (decode (a .model .now)) r (a .zones .now) (p .1) (a .n) (p .2) (p .3) in
     omega (arith, l .loop .inv .1, c .loop-test .taken, k .claims .ensures, s .pre .1)
 
@@ -81,7 +80,7 @@ returns c =
     let s = k .before .before .before .before .before in
     let a = s .args in
     let p = s .pre .0 in
-    let r = given-right (a .model .now) (p .0) in
+    let r = p .0 .right in
     let i = c .before in
     let v = i .before .before .loop-test .taken in
     tried-fails (decode (a .model .now)) (table.decode (a .zones .now)) (a .n) (table.zoneIn (a .zones .now) (a .n - 1)) (l .loop .x) (l .loop .inv .2) (i .before .try-place .result) (i .before .try-place .ensures) (i .is-clear .result) (i .is-clear .ensures) (c .if1 .taken) (omega (arith, v, k .claims .ensures, claims-many (decode (a .model .now)) r (a .zones .now) (p .1) (a .n) (p .2) (p .3))) (a .before) (l .loop .number + 1) (omega (arith, l .loop .inv .1))
@@ -111,7 +110,7 @@ returns-2 c =
     let s = k .before .before .before .before .before in
     let a = s .args in
     let p = s .pre .0 in
-    let r = given-right (a .model .now) (p .0) in
+    let r = p .0 .right in
     subst (λ (f : Found). ZoneTried (decode (a .model .now)) (table.decode (a .zones .now)) (a .n) (table.zoneIn (a .zones .now) (a .n - 1)) (a .before) (triedBy (l .loop .number) (l .loop .x) f)) (sym (c .holds .ensures))
     (tried-all (decode (a .model .now)) (table.decode (a .zones .now)) (a .n) (table.zoneIn (a .zones .now) (a .n - 1)) (l .loop .x) (omega (arith, l .loop .inv .0, c .before .loop-test .left, k .claims .ensures, claims-many (decode (a .model .now)) r (a .zones .now) (p .1) (a .n) (p .2) (p .3))) (l .loop .inv .2) (a .before) (l .loop .number) (l .loop .inv .1))
 

@@ -4,8 +4,7 @@ use Prim.Native.Nat.{ℕ, _≤_}
 use mathlib.Core.Path.{_≡_, sym, _∙_, subst}
 use mathlib.Core.List.{List}
 use Rattle.meaning.specs.Text.ModelTable.{decode}
-use Rattle.meaning.proofs.Text.ModelTheorems.{given-right}
-use Rattle.parts.proofs.PartLaws.{clocks-is}
+use Rattle.model_table.proofs.PartLaws.{clocks-is}
 use Rattle.machine.specs.Stands.{stateOf}
 use Rattle.zone.specs.Promise.{ExactZone}
 use Rattle.zone.specs.ByCell.{ClocksWritten, JobsWritten}
@@ -28,7 +27,7 @@ module _ (c : tie.After-clocks2) where
   count = c .clocks2 .ensures ∙ clocks-is (c .before .before .before .before .args .model .now) (c .before .before .before .before .pre .0)
 
   few : c .clocks2 .result ≤ 4
-  few = let r = given-right (c .before .before .before .before .args .model .now) (c .before .before .before .before .pre .0) .clocks in omega (arith, count)
+  few = let r = c .before .before .before .before .pre .0 .right .clocks in omega (arith, count)
 
 of-clocks-requires : tie.Need-of-clocks-requires
 of-clocks-requires c κs =
@@ -42,7 +41,7 @@ with-jobs-requires : tie.Need-with-jobs-requires
 with-jobs-requires c κs =
     let s = c .before .before .before .before .before in
     let m = decode (s .args .model .now) in
-    (few (c .before), jobs-few m (s .args .state) (s .pre .1), jobs-small m (s .args .state) (s .pre .1) (given-right (s .args .model .now) (s .pre .0)))
+    (few (c .before), jobs-few m (s .args .state) (s .pre .1), jobs-small m (s .args .state) (s .pre .1) (s .pre .0 .right))
 
 tasks-of-requires : tie.Need-tasks-of-requires
 tasks-of-requires c κs = search needs
@@ -56,7 +55,7 @@ returns c =
     let second = c .before .with-jobs in
     let e = count (c .before .before .before) in
     subst (λ (ts : List ℕ). ExactZone m (stateOf m z) (record { location = z .location; tasks = ts; count = z .count; bounds = second .result })) (sym (c .tasks-of .ensures))
-    (exact-made m (given-right (s .args .model .now) (s .pre .0)) z (s .pre .1) (first .result) (second .result)
+    (exact-made m (s .pre .0 .right) z (s .pre .1) (first .result) (second .result)
     (subst (λ (n : ℕ). ClocksWritten (z .clocks) n (first .result)) e (first .ensures))
     (subst (λ (n : ℕ). JobsWritten (first .result) n (z .jobs) (z .count) (second .result)) e (second .ensures)))
 

@@ -21,8 +21,7 @@ exact-zone-requires c κs = (c .before .before .before .pre, lendable c)
 
 returns : tie.Need-returns
 returns c =
-    let s = c .before .before .before .before in
-    record { unusable = λ f. absurd (f (record { given = s .pre; lendable = lendable (c .before) })); usable = λ u. (refl, c .exact-zone .ensures) }
+    record { unusable = λ f. absurd (f (lendable (c .before))); usable = λ u. (refl, c .exact-zone .ensures) }
 
 not-made-requires : tie.Need-not-made-requires
 not-made-requires c κs = search needs
@@ -31,7 +30,7 @@ returns-2 : tie.Need-returns-2
 returns-2 c =
     let s = c .before .before .before .before in
     let not = subst (λ (b : Bool). Tells b (Lendable (decode (s .args .model .now)) (s .args .state))) (c .before .if1 .left) (c .before .before .is-lendable .ensures) in
-    record { unusable = λ f. c .not-made .ensures; usable = λ u. absurd (not (u .lendable)) }
+    record { unusable = λ f. c .not-made .ensures; usable = λ u. absurd (not u) }
 
 pub exactly-given-spec : {M : Type 1} → statement M
 exactly-given-spec =

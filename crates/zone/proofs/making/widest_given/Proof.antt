@@ -18,7 +18,7 @@ returns c =
     let s = c .before .before .before .before in
     let m = decode (s .args .model .now) in
     let r = c .before .before .is-order .ensures .0 (c .before .if1 .taken) in
-    record { unusable = λ f. absurd (f (record { given = s .pre; cells = r })); usable = λ u. (refl, c .widest-zone .ensures m r) }
+    record { unusable = λ f. absurd (f r); usable = λ u. (refl, c .widest-zone .ensures m r) }
 
 not-made-requires : tie.Need-not-made-requires
 not-made-requires c κs = search needs
@@ -26,7 +26,7 @@ not-made-requires c κs = search needs
 returns-2 : tie.Need-returns-2
 returns-2 c = record {
   unusable = λ f. c .not-made .ensures;
-  usable = λ u. absurd (true≢false (sym (c .before .before .is-order .ensures .1 (u .cells)) ∙ c .before .if1 .left));
+  usable = λ u. absurd (true≢false (sym (c .before .before .is-order .ensures .1 u) ∙ c .before .if1 .left));
 }
 
 pub widest-given-spec : {M : Type 1} → statement M

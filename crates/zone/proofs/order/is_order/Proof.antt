@@ -5,7 +5,7 @@ use mathlib.Core.Path.{_≡_, sym, _∙_, ap}
 use mathlib.Core.Bool.{true≢false}
 use lib.ListN.{length, take}
 use Rattle.meaning.specs.Text.ModelTable.{decode}
-use Rattle.parts.proofs.PartLaws.{tasks-is, locations-is}
+use Rattle.model_table.proofs.PartLaws.{tasks-is, locations-is}
 use Rattle.zone.specs.ByCell.{rightTasks}
 use Rattle.zone.proofs.Walks.{is-not}
 use Rattle.zone.proofs.OrderLaws.{cells-tasks, cells-unused, cells-make}
@@ -23,7 +23,7 @@ locations-requires c κs = search needs
 returns-2 : tie.Need-returns-2
 returns-2 c =
     let s = c .before .before .before .before in
-    is-not (λ r. let h = r .order .high in omega (arith, c .before .locations .ensures, locations-is (s .args .table .now) (s .pre)))
+    is-not (λ r. let h = r .order .high in omega (arith, c .before .locations .ensures, locations-is (s .args .model .now) (s .pre)))
 
 returns-3 : tie.Need-returns-3
 returns-3 c = is-not (λ r. let h = r .few in omega arith)
@@ -42,18 +42,18 @@ returns-4 c =
     let s = c .before .before .before .before .before .before .before .before .before in
     let a = s .args in
     let e : length (a .tasks) ≡ 6 = search needs in
-    let t = sym (c .before .before .right-tasks .ensures ∙ ap (λ (n : ℕ). rightTasks n (take (a .count) (a .tasks))) (c .before .before .before .tasks .ensures ∙ tasks-is (a .table .now) (s .pre))) ∙ c .before .if4 .taken in
-    let l = c .before .before .before .before .before .before .locations .ensures ∙ locations-is (a .table .now) (s .pre) in (
-      λ q. cells-make (decode (a .table .now)) (a .location) (a .tasks) (a .count) (omega arith) (omega arith) (omega arith) e t (sym (c .unused .ensures) ∙ q),
-      λ r. c .unused .ensures ∙ cells-unused (decode (a .table .now)) (a .location) (a .tasks) (a .count) r,
+    let t = sym (c .before .before .right-tasks .ensures ∙ ap (λ (n : ℕ). rightTasks n (take (a .count) (a .tasks))) (c .before .before .before .tasks .ensures ∙ tasks-is (a .model .now) (s .pre))) ∙ c .before .if4 .taken in
+    let l = c .before .before .before .before .before .before .locations .ensures ∙ locations-is (a .model .now) (s .pre) in (
+      λ q. cells-make (decode (a .model .now)) (a .location) (a .tasks) (a .count) (omega arith) (omega arith) (omega arith) e t (sym (c .unused .ensures) ∙ q),
+      λ r. c .unused .ensures ∙ cells-unused (decode (a .model .now)) (a .location) (a .tasks) (a .count) r,
     )
 
 returns-5 : tie.Need-returns-5
 returns-5 c =
     let s = c .before .before .before .before .before .before .before .before in
     let a = s .args in
-    let t = c .before .right-tasks .ensures ∙ ap (λ (n : ℕ). rightTasks n (take (a .count) (a .tasks))) (c .before .before .tasks .ensures ∙ tasks-is (a .table .now) (s .pre)) in
-    is-not (λ r. true≢false (sym (t ∙ cells-tasks (decode (a .table .now)) (a .location) (a .tasks) (a .count) r) ∙ c .if4 .left))
+    let t = c .before .right-tasks .ensures ∙ ap (λ (n : ℕ). rightTasks n (take (a .count) (a .tasks))) (c .before .before .tasks .ensures ∙ tasks-is (a .model .now) (s .pre)) in
+    is-not (λ r. true≢false (sym (t ∙ cells-tasks (decode (a .model .now)) (a .location) (a .tasks) (a .count) r) ∙ c .if4 .left))
 
 pub is-order-spec : {M : Type 1} → statement M
 is-order-spec =

@@ -1,0 +1,5 @@
+pub mod CellLaws
+pub mod CountLaws
+pub mod GivenLaws
+pub mod PartLaws
+pub mod SignedLaws

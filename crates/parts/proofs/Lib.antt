@@ -1,4 +1,0 @@
-pub mod CellLaws
-pub mod CountLaws
-pub mod PartLaws
-pub mod SignedLaws

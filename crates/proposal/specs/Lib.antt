@@ -1,5 +1,0 @@
-pub mod Marked
-pub mod Rows
-pub mod Held
-pub mod Meant
-pub mod Wrote

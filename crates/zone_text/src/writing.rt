@@ -1,0 +1,214 @@
+// The writer of a proposal's text. Each function but the last two gives the place after what it wrote.
+// Assumes nothing.
+ghost use mathlib.Core.Path.{_≡_};
+ghost use mathlib.Core.List.{List, [], _∷_, map};
+ghost use Prim.Native.Nat.{ℕ, _+_, _-_, _*_, _≤_, _<_};
+ghost use lib.Dec.{ltb};
+ghost use lib.ListN.{length, getD};
+ghost use Rattle.meaning.specs.Text.Choice.{pick};
+ghost use Rattle.meaning.specs.Text.ModelText.{texts};
+ghost use Rattle.meaning.specs.Text.ModelTable.{there};
+ghost use Rattle.meaning.specs.Text.ModelReader.{words};
+ghost use Rattle.meaning.specs.Text.ModelTable as parts;
+ghost use Rattle.meaning.specs.Text.ProposalTable.{zoneSlot, poolStart, orderIn, boundsIn, zoneIn, decode};
+ghost use Rattle.meaning.specs.Text.ProposalText.{orderText, boundText, claimsText, zoneText, endText, proposalText};
+ghost use Rattle.model_table.specs.Right.{RightTable};
+ghost use Rattle.lines.specs.Put.{Put};
+ghost use Rattle.zone_table.specs.Kept.{fieldText, keptBound};
+ghost use Rattle.zone_text.specs.Wrote.{Wrote};
+ghost use Rattle.zone_text.specs.Over.{WroteOver};
+use lines::writing;
+use model_table::cells::cell;
+use model_table::cells::less_one;
+use model_text::writing::is_model;
+use zone_table::lengths;
+use zone_table::test;
+
+// What a writer answers: done, with the length of the text; or a refusal number and its place.
+pub enum Written {
+    Done(usize),
+    Refused(u32, usize),
+}
+
+// What is added to c of a bound, so that it is kept as a number that is not below 0.
+const BELOW: u32 = 32000;
+
+// Where the bounds and the claims begin.
+const BOUNDS_START: usize = 384;
+
+const POOL_START: usize = 14256;
+
+// A mark.
+fn write_mark(buf: &mut [u8], at: usize, a: u8, b: u8) -> usize
+    requires { ⌜ at + 2 ≤ length (now buf) ⌝ }
+    ensures { λ r. ⌜ Put (now (buf .entry)) at (a ∷ b ∷ []) (now (buf .exit)) r ⌝ }
+{
+    buf[at] = a;
+    buf[at + 1] = b;
+    at + 2
+}
+
+// A line feed.
+fn write_feed(buf: &mut [u8], at: usize) -> usize
+    requires { ⌜ at + 1 ≤ length (now buf) ⌝ }
+    ensures { λ r. ⌜ Put (now (buf .entry)) at (10 ∷ []) (now (buf .exit)) r ⌝ }
+{
+    buf[at] = 10;
+    at + 1
+}
+
+// The last line.
+fn write_end(buf: &mut [u8], at: usize) -> usize
+    requires { ⌜ at + 3 ≤ length (now buf) ⌝ }
+    ensures { λ r. ⌜ Put (now (buf .entry)) at endText (now (buf .exit)) r ⌝ }
+{
+    buf[at] = 69;
+    buf[at + 1] = 78;
+    buf[at + 2] = 10;
+    at + 3
+}
+
+// A task's field, where its cell has something.
+fn write_task(v: u32, buf: &mut [u8], at: usize) -> usize
+    requires { ⌜ at + length (pick (ltb 0 v) (fieldText (v - 1)) []) ≤ length (now buf) ⌝ }
+    ensures { λ r. ⌜ Put (now (buf .entry)) at (pick (ltb 0 v) (fieldText (v - 1)) []) (now (buf .exit)) r ⌝ }
+{
+    if 0 < v {
+        return writing::write_field(buf, at, 0, v - 1);
+    }
+    at
+}
+
+// The fields of a zone's tasks.
+fn write_tasks(table: &[u32], k: usize, buf: &mut [u8], at: usize) -> usize
+    requires { ⌜ (k < 48) × (at + length (texts fieldText (orderIn (now table) k)) ≤ length (now buf)) ⌝ }
+    ensures { λ r. ⌜ Put (now (buf .entry)) at (texts fieldText (orderIn (now (table .entry)) k)) (now (buf .exit)) r ⌝ }
+{
+    let mut p = at;
+    let mut x: usize = 0;
+    while x < 6 {
+        p = write_task(cell(table, 8 * k + 1 + x), buf, p);
+        x += 1;
+    }
+    p
+}
+
+// The line of a zone's location and tasks.
+fn write_order(table: &[u32], k: usize, buf: &mut [u8], at: usize) -> usize
+    requires { ⌜ (k < 48) × (at + length (orderText (getD (now table) (zoneSlot k) 0 - 1) (orderIn (now table) k)) ≤ length (now buf)) ⌝ }
+    ensures { λ r. ⌜ Put (now (buf .entry)) at (orderText (getD (now (table .entry)) (zoneSlot k) 0 - 1) (orderIn (now (table .entry)) k)) (now (buf .exit)) r ⌝ }
+{
+    let l = less_one(cell(table, 8 * k));
+    let p = write_mark(buf, at, 90, 78);
+    let q = writing::write_field(buf, p, 0, l);
+    let r = write_tasks(table, k, buf, q);
+    write_feed(buf, r)
+}
+
+// The line of a bound, where its cell has something.
+fn write_bound(i: u32, j: u32, v: u32, buf: &mut [u8], at: usize) -> usize
+    requires { ⌜ at + length (pick (ltb 0 v) (boundText (keptBound i j (v - 1))) []) ≤ length (now buf) ⌝ }
+    ensures { λ r. ⌜ Put (now (buf .entry)) at (pick (ltb 0 v) (boundText (keptBound i j (v - 1))) []) (now (buf .exit)) r ⌝ }
+{
+    if v == 0 {
+        return at;
+    }
+    let below = [0, 0, BELOW];
+    let numbers = [i, j, v - 1];
+    let p = write_mark(buf, at, 66, 68);
+    writing::write_fields(buf, p, 3, below, numbers)
+}
+
+// The lines of a zone's bounds.
+fn write_bounds(table: &[u32], k: usize, buf: &mut [u8], at: usize) -> usize
+    requires { ⌜ (k < 48) × (at + length (texts boundText (boundsIn (now table) k)) ≤ length (now buf)) ⌝ }
+    ensures { λ r. ⌜ Put (now (buf .entry)) at (texts boundText (boundsIn (now (table .entry)) k)) (now (buf .exit)) r ⌝ }
+{
+    let mut p = at;
+    let mut x: usize = 0;
+    while x < 289 {
+        let v = cell(table, BOUNDS_START + 289 * k + x);
+        p = write_bound((x / 17) as u32, (x % 17) as u32, v, buf, p);
+        x += 1;
+    }
+    p
+}
+
+// The fields of n claims that stand in the pool from `from` on.
+fn write_numbers(table: &[u32], from: u32, n: u32, buf: &mut [u8], at: usize) -> usize
+    requires { ⌜ at + length (texts fieldText (map (λ (x : ℕ). x - 1) (words (now table) (poolStart + from) n))) ≤ length (now buf) ⌝ }
+    ensures { λ r. ⌜ Put (now (buf .entry)) at (texts fieldText (map (λ (x : ℕ). x - 1) (words (now (table .entry)) (poolStart + from) n))) (now (buf .exit)) r ⌝ }
+{
+    let mut p = at;
+    let mut x: u32 = 0;
+    while x < n {
+        let v = less_one(cell(table, POOL_START + (from as usize) + (x as usize)));
+        p = writing::write_field(buf, p, 0, v);
+        x += 1;
+    }
+    p
+}
+
+// The line of these claims.
+fn write_claims(table: &[u32], from: u32, n: u32, buf: &mut [u8], at: usize) -> usize
+    requires { ⌜ at + length (claimsText (map (λ (x : ℕ). x - 1) (words (now table) (poolStart + from) n))) ≤ length (now buf) ⌝ }
+    ensures { λ r. ⌜ Put (now (buf .entry)) at (claimsText (map (λ (x : ℕ). x - 1) (words (now (table .entry)) (poolStart + from) n))) (now (buf .exit)) r ⌝ }
+{
+    let p = write_mark(buf, at, 71, 79);
+    let q = write_numbers(table, from, n, buf, p);
+    write_feed(buf, q)
+}
+
+// The lines of zone k + 1, where there is one.
+fn write_zone(table: &[u32], k: usize, buf: &mut [u8], at: usize) -> usize
+    requires { ⌜ (k < 48) × (at + length (pick (there (now table) (zoneSlot k)) (zoneText (zoneIn (now table) k)) []) ≤ length (now buf)) ⌝ }
+    ensures { λ r. ⌜ Put (now (buf .entry)) at (pick (there (now (table .entry)) (zoneSlot k)) (zoneText (zoneIn (now (table .entry)) k)) []) (now (buf .exit)) r ⌝ }
+{
+    if cell(table, 8 * k) == 0 {
+        return at;
+    }
+    let from = lengths::start(table, k);
+    let n = lengths::distance(from, cell(table, 8 * k + 7));
+    let p = write_order(table, k, buf, at);
+    let q = write_bounds(table, k, buf, p);
+    write_claims(table, from, n, buf, q)
+}
+
+// The whole text.
+fn write_text(table: &[u32], buf: &mut [u8]) -> usize
+    requires { ⌜ length (proposalText (decode (now table))) ≤ length (now buf) ⌝ }
+    ensures { λ r. ⌜ Put (now (buf .entry)) 0 (proposalText (decode (now (table .entry)))) (now (buf .exit)) r ⌝ }
+{
+    let mut p: usize = 0;
+    let mut k: usize = 0;
+    while k < 48 {
+        p = write_zone(table, k, buf, p);
+        k += 1;
+    }
+    write_end(buf, p)
+}
+
+// The text of the proposal's table into the buffer, over a right model's table.
+fn write_over(model: &[u32], table: &[u32], buffer: &mut [u8]) -> Written
+    requires { ⌜ RightTable (now model) ⌝ }
+    ensures { λ r. ⌜ WroteOver (parts.decode (now (model .entry))) (now (table .entry)) (now (buffer .entry)) r (now (buffer .exit)) ⌝ }
+{
+    if !test::is_proposal(model, table) {
+        return Written::Refused(13, 0);
+    }
+    if buffer.len() < lengths::text_length(table) {
+        return Written::Refused(11, 0);
+    }
+    let n = write_text(table, buffer);
+    Written::Done(n)
+}
+
+// The text of the proposal's table into the buffer.
+pub fn write_proposal(model: &[u32], table: &[u32], buffer: &mut [u8]) -> Written
+    ensures { λ r. ⌜ Wrote (now (model .entry)) (now (table .entry)) (now (buffer .entry)) r (now (buffer .exit)) ⌝ }
+{
+    if !is_model(model) {
+        return Written::Refused(13, 0);
+    }
+    write_over(model, table, buffer)
+}

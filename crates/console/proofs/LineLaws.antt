@@ -20,9 +20,9 @@ use Rattle.verdict.specs.Answers.{faultOf}
 use Rattle.verdict.specs.declared.answer.Fault.{Fault}
 use Rattle.verdict.specs.declared.answer.Fault.the-variants.{Nothing, Late, Over, Unclaimed, Elsewhere, Breaks}
 use Rattle.console.specs.Line.{spaced, jobNumbers, kindBy, judgedLine, okLine, failedLine, refusedLine, isRefused, lineOf}
-use Rattle.console.specs.Wrote.{Wrote}
+use Rattle.console.specs.Wrote.{WroteLine}
 use Rattle.console.specs.declared.told.Told.{Told}
-use Rattle.console.specs.declared.line.Written.the-variants.{Done, Refused}
+use Rattle.console.specs.declared.printed.Written.the-variants.{Done, Refused}
 
 -- ---- how long
 
@@ -170,11 +170,11 @@ short-ok n = omega (arith, spaced-short (n ∷ []))
 -- ---- the answer and the lent buffer
 
 module _ (x : Told) (b : List ℕ) (n : ℕ) where
-  pub wrote-short : n ≡ 0 + length (lineOf x) → length b < n → Wrote x b (Refused 11 0) b
+  pub wrote-short : n ≡ 0 + length (lineOf x) → length b < n → WroteLine x b (Refused 11 0) b
   wrote-short e h = record { short = λ l. (refl, refl); text = λ l. absurd (omega (arith, e)) }
 
   pub wrote-line : (b′ room room′ : List ℕ) → length (lineOf x) ≤ length room → Put room 0 (lineOf x) room′ n → n ≤ length b
-      → b′ ≡ sets b 0 (take n room′) → Wrote x b (Done n) b′
+      → b′ ≡ sets b 0 (take n room′) → WroteLine x b (Done n) b′
   wrote-line b′ room room′ f p h e =
       let z : n ≡ length (lineOf x) = omega (arith, p .next) in
       let t : take n room′ ≡ lineOf x = ap (λ (k : ℕ). take k room′) z ∙ ap (take (length (lineOf x))) (p .text) ∙ written-front room (lineOf x) f in

@@ -16,7 +16,7 @@ use Rattle.model_text.specs.Meant as model
 use Rattle.zone_text.specs.declared.reading.Read.{Read}
 use Rattle.zone_text.specs.declared.reading.Read.the-variants.{Done, Refused}
 use Rattle.zone_text.specs.Meant.{meant, ReadOver}
-use Rattle.verdict.specs.Answers.{Usable, Answered, unusable, right}
+use Rattle.verdict.specs.Answers.{BothGiven, Answered, unusable, right}
 use Rattle.verdict.specs.declared.answer.Answer.{Answer}
 use Rattle.console.specs.Texts.{refusedText, TellsAnswer, TellsProposal, TellsModel, Tells}
 use Rattle.console.specs.declared.told.Told.{Told}
@@ -27,7 +27,7 @@ abbrev pub told : ℕ → Answer → Told
 told n a = record { text = 0; at = 0; clocks = n; answer = a }
 
 -- the check of tables that texts give answers what is right
-tells-answer : (t u : List ℕ) (n : ℕ) (a : Answer) → Usable t u → n ≡ clocks t → Answered t u a → TellsAnswer t u (told n a)
+tells-answer : (t u : List ℕ) (n : ℕ) (a : Answer) → BothGiven t u → n ≡ clocks t → Answered t u a → TellsAnswer t u (told n a)
 tells-answer t u n a h e (unusable x y) = absurd (x h)
 tells-answer t u n a h e (right x b y z) = record { text = refl; at = refl; clocks = e; answer = b; right = y; says = z }
 
@@ -40,7 +40,7 @@ module _ (b s t t′ : List ℕ) (r : Read) (z : length t ≡ proposal.size) (g 
 
   pub tells-checked : (n : ℕ) (a : Answer) → r ≡ Done → n ≡ clocks b → Answered b t′ a → TellsProposal b (readProposal true (decode b) proposal.size s) (told n a)
   tells-checked n a e c h =
-      let u : Usable b t′ = record { model = g; proposal = record { text = s; reads = answer Done e } } in
+      let u : BothGiven b t′ = record { model = g; proposal = record { text = s; reads = answer Done e } } in
       subst (λ (x : records.Answer (List ℕ)). TellsProposal b x (told n a)) (sym (answer Done e)) (tells-answer b t′ n a u c h)
 
 module _ (m p t t′ : List ℕ) (r : model-read.Read) (z : length t ≡ size) (w : model.Answered (length t) (readModel (length t) m) r t′) where

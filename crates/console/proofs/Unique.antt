@@ -21,12 +21,12 @@ use Rattle.verdict.specs.declared.answer.Answer.{Answer}
 use Rattle.verdict.specs.declared.answer.Fault.{Fault}
 use Rattle.verdict.specs.declared.answer.Fault.the-variants.{Nothing, Late, Over, Unclaimed, Elsewhere, Breaks}
 use Rattle.console.specs.Line.{lineOf}
-use Rattle.console.specs.Wrote.{Wrote, written}
+use Rattle.console.specs.Wrote.{WroteLine, written}
 use Rattle.console.specs.Part.{Where, inModel, inProposal, ShowsIn}
 use Rattle.console.specs.Texts.{TellsAnswer, TellsProposal, TellsModel, Tells}
 use Rattle.console.specs.declared.told.Told.{Told}
-use Rattle.console.specs.declared.line.Written.{Written}
-use Rattle.console.specs.declared.line.Written.the-variants.{Done, Refused}
+use Rattle.console.specs.declared.printed.Written.{Written}
+use Rattle.console.specs.declared.printed.Written.the-variants.{Done, Refused}
 
 same-written : (r s : Written) (a : records.Answer ℕ) → written r ≡ a → written s ≡ a → r ≡ s
 same-written (Done n) (Done k) a p q = cc
@@ -35,7 +35,7 @@ same-written (Refused k l) (Done n) a p q = cc
 same-written (Refused k l) (Refused i j) a p q = cc
 
 -- the printed line: the answer, and what stands in the lent buffer
-pub line-once : (x : Told) (b : List ℕ) (r₁ r₂ : Written) (b₁ b₂ : List ℕ) → Wrote x b r₁ b₁ → Wrote x b r₂ b₂ → (r₁ ≡ r₂) × (b₁ ≡ b₂)
+pub line-once : (x : Told) (b : List ℕ) (r₁ r₂ : Written) (b₁ b₂ : List ℕ) → WroteLine x b r₁ b₁ → WroteLine x b r₂ b₂ → (r₁ ≡ r₂) × (b₁ ≡ b₂)
 line-once x b r₁ r₂ b₁ b₂ p q =
     by-lt (length b) (length (lineOf x))
     (λ h. (same-written r₁ r₂ _ (p .short h .0) (q .short h .0), p .short h .1 ∙ sym (q .short h .1)))

@@ -42,9 +42,9 @@ fn proposal_part<'a>(table: &[u32], text: &'a [u8]) -> &'a [u8]
     ensures { λ r. ⌜ Shows (text .entry) (proposalPart (now (text .entry)) (readProposal true (decode (now (table .entry))) size (now (text .entry)))) r ⌝ }
 {
     let mut zones = [0; tables::PROPOSAL];
-    match zone_text::reading::read_proposal(table, text, &mut zones) {
-        zone_text::reading::Read::Refused(_, at) => part_from(text, at),
-        zone_text::reading::Read::Done => {
+    match zone_text::read_proposal(table, text, &mut zones) {
+        zone_text::Read::Refused(_, at) => part_from(text, at),
+        zone_text::Read::Done => {
             let end = text.len();
             &text[end..end]
         }
@@ -57,8 +57,8 @@ pub fn fault_part<'a>(model: &'a [u8], proposal: &'a [u8]) -> &'a [u8]
     ensures { λ r. ⌜ ShowsIn (partOf (now (model .entry)) (now (proposal .entry))) (model .entry) (proposal .entry) r ⌝ }
 {
     let mut table = [0; tables::MODEL];
-    match model_text::reading::read_model(model, &mut table) {
-        model_text::reading::Read::Refused(_, at) => part_from(model, at),
-        model_text::reading::Read::Done => proposal_part(&table, proposal),
+    match model_text::read_model(model, &mut table) {
+        model_text::Read::Refused(_, at) => part_from(model, at),
+        model_text::Read::Done => proposal_part(&table, proposal),
     }
 }

@@ -39,9 +39,9 @@ fn check_proposal(table: &[u32], text: &[u8]) -> Told
     ensures { λ r. ⌜ TellsProposal (now (table .entry)) (readProposal true (decode (now (table .entry))) size (now (text .entry))) r ⌝ }
 {
     let mut zones = [0; tables::PROPOSAL];
-    match zone_text::reading::read_proposal(table, text, &mut zones) {
-        zone_text::reading::Read::Refused(k, at) => refused(2, k, at),
-        zone_text::reading::Read::Done => {
+    match zone_text::read_proposal(table, text, &mut zones) {
+        zone_text::Read::Refused(k, at) => refused(2, k, at),
+        zone_text::Read::Done => {
             Told {
                 text: 0,
                 at: 0,
@@ -57,8 +57,8 @@ pub fn check_texts(model: &[u8], proposal: &[u8]) -> Told
     ensures { λ r. ⌜ Tells (now (model .entry)) (now (proposal .entry)) r ⌝ }
 {
     let mut table = [0; tables::MODEL];
-    match model_text::reading::read_model(model, &mut table) {
-        model_text::reading::Read::Refused(k, at) => refused(1, k, at),
-        model_text::reading::Read::Done => check_proposal(&table, proposal),
+    match model_text::read_model(model, &mut table) {
+        model_text::Read::Refused(k, at) => refused(1, k, at),
+        model_text::Read::Done => check_proposal(&table, proposal),
     }
 }

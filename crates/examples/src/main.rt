@@ -1,7 +1,7 @@
 // Runs the examples: the arguments name the model and the zones of each in turn, and for each pair of files the name of the zones' file is
 // printed, and the line of the check. The last pairs are of files that can't be read: not there, or a folder.
 ghost use Rattle.io.specs.Counts.{Counts};
-use console::line::Written;
+use console::Written;
 use libc::STDOUT_FILENO;
 
 // Whether the file has no more bytes: a read that fails says no.
@@ -36,8 +36,8 @@ fn print_front(bytes: &[u8], n: usize) {
 // The line of the two texts. No line is longer than the buffer.
 fn print_line(model: &[u8], zones: &[u8]) {
     let mut buffer = [0u8; 569];
-    let told = console::texts::check_texts(model, zones);
-    if let Written::Done(n) = console::line::line(told, &mut buffer) {
+    let told = console::check_texts(model, zones);
+    if let Written::Done(n) = console::line(told, &mut buffer) {
         print_front(&buffer, n);
     }
 }

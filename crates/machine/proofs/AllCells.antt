@@ -56,7 +56,7 @@ passed-end n h k w l = let u = w .upto in let z : k ≡ n = omega arith in ap (�
 
 -- every one of what is collected
 module _ {A : Type 0} (f : A → Bool) where
-  every-append : (a b : List A) → every f (a ++ b) ≡ (every f a && every f b)
+  pub every-append : (a b : List A) → every f (a ++ b) ≡ (every f a && every f b)
   every-append [] b = refl
   every-append (x ∷ a) b = ap (λ (y : Bool). f x && y) (every-append a b) ∙ sym (assoc (f x) (every f a) (every f b))
     where

@@ -1,16 +1,14 @@
 -- Laws of the tests of single cells: each way through such a test.
 -- Assumes nothing.
-use Prim.Native.Nat.{ℕ, _+_, _≤_, _<_}
-use mathlib.Core.Path.{_≡_, refl, sym, _∙_, ap}
-use mathlib.Core.Bool.{Bool, true, false, not, true≢false}
+use Prim.Native.Nat.{ℕ, _≤_, _<_}
+use mathlib.Core.Path.{_≡_, refl, sym}
+use mathlib.Core.Bool.{Bool, true, false, true≢false}
 use mathlib.Core.List.{List}
 use lib.Dec.{ltb, leb, eqb}
-use lib.ListN.{getD, drop}
+use lib.ListN.{getD}
 use borrow.Author.Tests.{lt-ltb, le-ltb, eq-eqb, ne-eqb}
-use Rattle.meaning.specs.Lists.{elem}
-use Rattle.meaning.specs.Machine.State.{order}
 use Rattle.model_table.specs.Parts.{workIn, deadlineIn}
-use Rattle.machine.specs.Stands.{clockMost, noJob, queueOf}
+use Rattle.machine.specs.Stands.{noJob}
 use Rattle.machine.specs.ByCell.{clockRight, timely, unused, jobRight, Tells}
 use Rattle.machine.specs.declared.Job.{Job}
 
@@ -36,11 +34,8 @@ pub unused-task : (j : Job) → (j .task ≡ 0 → ⊥) → false ≡ unused j
 unused-task j a = rw (ne-eqb (j .task) 0 a)
 
 module _ (t : List ℕ) (js : List Job) (n k : ℕ) where
-  pub job-queued : k < n → timely t (getD js k noJob) ≡ true → (b : Bool) → elem (getD js k noJob .task) (drop (k + 1) (order (queueOf js n))) ≡ b → not b ≡ jobRight t js n k
-  job-queued h e b q = rw (lt-ltb k n h, e, q)
-
-  pub job-untimely : k < n → timely t (getD js k noJob) ≡ false → false ≡ jobRight t js n k
-  job-untimely h e = rw (lt-ltb k n h, e)
+  pub job-there : k < n → timely t (getD js k noJob) ≡ jobRight t js n k
+  job-there h = rw (lt-ltb k n h)
 
   pub job-behind : n ≤ k → unused (getD js k noJob) ≡ jobRight t js n k
   job-behind h = rw (le-ltb k n h)

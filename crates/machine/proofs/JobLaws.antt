@@ -1,36 +1,29 @@
--- Laws of single jobs and of releases: late, the last tick, who beats whom, the place of a new job.
+-- Laws of single jobs: late, the last tick, work and time left, who beats whom.
 -- Assumes nothing.
-use Prim.Native.Nat.{ℕ, zero, suc, _+_, _-_, _≤_, _<_}
-use mathlib.Core.Path.{_≡_, refl, sym, _∙_, ap, ap₂, subst}
-use mathlib.Core.Bool.{Bool, true, false, _&&_, _||_}
-use mathlib.Core.List.{List, [], _∷_, map}
+use Prim.Native.Nat.{ℕ, suc, _+_, _-_, _≤_, _<_}
+use mathlib.Core.Path.{_≡_, sym, _∙_, ap, ap₂}
+use mathlib.Core.Bool.{true, false, _&&_, _||_}
+use mathlib.Core.List.{List, [], _∷_}
 use native.Mathlib.Omega.{arith}
 use lib.Dec.{ltb, leb, eqb}
 use lib.ListN.{length, getD}
-use borrow.Author.Tests.{lt-ltb, le-ltb, eq-eqb, ne-eqb}
-use Rattle.meaning.specs.Lists.{elem, insertAt}
+use borrow.Author.Tests.{lt-ltb, le-ltb, ltb-true, eq-eqb, ne-eqb}
 use Rattle.meaning.specs.Model.{Policy, Model, taskAt}
 use Rattle.meaning.specs.Machine.State as M
-use Rattle.meaning.specs.Machine.State.{order}
-use Rattle.meaning.specs.Machine.Place.{beatsBy, beats, behind, placeOf}
-use Rattle.meaning.specs.Machine.Release.{overflows, newJob, put}
+use Rattle.meaning.specs.Machine.Place.{beatsBy, beats}
 use Rattle.meaning.specs.Machine.Tick.{finishes, isLate}
-use Rattle.meaning.specs.Text.Choice.{pick}
+use Rattle.meaning.specs.Zones.Proper.{ProperJob}
+use Rattle.model_table.specs.Right.{RightTable}
 use Rattle.meaning.specs.Text.ModelTable.{decode}
-use Rattle.meaning.proofs.Hooks.{beats-is, beatsBy-fps, beatsBy-edf, beatsBy-sjf, behind-none, overflows-is, finishes-none, finishes-is}
-use Rattle.meaning.proofs.Machine.Place.{FirstFit, fits-unique, place-is}
-use Rattle.meaning.proofs.Tests.{leb-same}
+use Rattle.meaning.proofs.Hooks.{beats-is, beatsBy-fps, beatsBy-edf, beatsBy-sjf, finishes-none, finishes-is}
+use Rattle.meaning.proofs.Tests.{and-left, and-right, and-both, leb-same}
 use Rattle.meaning.proofs.Text.Choices.{by-eq, by-lt}
 use Rattle.meaning.proofs.Text.Policies.{policy-fps, policy-edf, policy-sjf}
-use Rattle.model_table.specs.Right.{RightTable}
 use Rattle.model_table.specs.Parts.{policyIn, workIn, deadlineIn, priorityIn}
 use Rattle.model_table.proofs.PartLaws.{policy-is, work-is, deadline-is, priority-is}
-use Rattle.machine.specs.Stands.{jobOf, cellsOf}
-use Rattle.machine.specs.ByCell.{soonerIn, shorterIn, beatsIn}
-use Rattle.machine.specs.ByQueue.{queueIn, releasedBy}
+use Rattle.machine.specs.Stands.{jobOf}
+use Rattle.machine.specs.ByCell.{timely, soonerIn, shorterIn, beatsIn}
 use Rattle.machine.specs.declared.Job.{Job}
-use Rattle.machine.specs.declared.queue.Queue.{Queue}
-use Rattle.machine.proofs.Searches.{Sought}
 
 -- ---- late, and the last tick
 
@@ -44,6 +37,21 @@ finishes-empty m (j ∷ q) e = absurd (omega arith)
 pub finishes-head : (m : Model) (d : M.Job) (q : List M.Job) → 0 < length q → finishes m q ≡ leb (taskAt m (getD q 0 d .task) .C) (suc (getD q 0 d .done))
 finishes-head m d [] h = absurd (omega arith)
 finishes-head m d (j ∷ q) h = finishes-is m j q
+
+-- ---- work and time left
+
+module _ (t : List ℕ) (g : RightTable t) (j : Job) where
+  pub proper-timely : ProperJob (decode t) (jobOf j) → timely t j ≡ true
+  proper-timely p =
+      let a = p .done in
+      let b = p .age in
+      and-both _ _ (lt-ltb (j .done) (workIn t (j .task)) (omega (arith, work-is t g (j .task)))) (lt-ltb (j .age) (deadlineIn t (j .task)) (omega (arith, deadline-is t g (j .task))))
+
+  pub timely-proper : timely t j ≡ true → ProperJob (decode t) (jobOf j)
+  timely-proper e =
+      let a = ltb-true (j .done) (workIn t (j .task)) (and-left (ltb (j .done) (workIn t (j .task))) (ltb (j .age) (deadlineIn t (j .task))) e) in
+      let b = ltb-true (j .age) (deadlineIn t (j .task)) (and-right (ltb (j .done) (workIn t (j .task))) (ltb (j .age) (deadlineIn t (j .task))) e) in
+      record { done = omega (arith, work-is t g (j .task)); age = omega (arith, deadline-is t g (j .task)) }
 
 -- ---- who beats whom
 
@@ -124,34 +132,3 @@ module _ (t : List ℕ) (n : ℕ) (j : Job) where
   pub beats-shorter : (policyIn t ≡ 1 → ⊥) → (policyIn t ≡ 2 → ⊥) → shorterIn t n j ≡ beatsIn t n j
   unfolding beatsIn
   beats-shorter e f = rw (ne-eqb (policyIn t) 1 e, ne-eqb (policyIn t) 2 f)
-
--- ---- the place of a new job
-
-module _ (m : Model) (t : ℕ) (d : M.Job) (q : List M.Job) where
-  fits : FirstFit d 0 (beats m t) q (placeOf m t q)
-  fits = subst (λ (k : ℕ). FirstFit d k (beats m t) q (placeOf m t q)) (behind-none m t (order q)) (place-is m t d q)
-
-  pub placed-at : (k : ℕ) → Sought (beats m t) d q k → k < length q → beats m t (getD q k d) ≡ true → k ≡ placeOf m t q
-  placed-at k w h e =
-      fits-unique d 0 (beats m t) q k (placeOf m t q) (record { from = omega arith; within = w .upto; ahead = λ i a b. w .none i b; at = λ b. e }) fits
-
-  pub placed-last : (k : ℕ) → Sought (beats m t) d q k → length q ≤ k → k ≡ placeOf m t q
-  placed-last k w h =
-      fits-unique d 0 (beats m t) q k (placeOf m t q) (record { from = omega arith; within = w .upto; ahead = λ i a b. w .none i b; at = λ b. absurd (omega arith) }) fits
-
--- ---- a release
-
-module _ (m : Model) (t : ℕ) (q : Queue) where
-  pub released-none : t ≡ 0 → q ≡ releasedBy m t q
-  released-none e = rw (eq-eqb t 0 e)
-
-  pub released-after : (t ≡ 0 → ⊥) → q .overflowed ≡ true → q ≡ releasedBy m t q
-  released-after e o = rw (ne-eqb t 0 e, o)
-
-  pub released-over : (t ≡ 0 → ⊥) → q .overflowed ≡ false → elem t (order (queueIn q)) ≡ true
-      → record { jobs = q .jobs; count = q .count; overflowed = true } ≡ releasedBy m t q
-  released-over e o h = rw (ne-eqb t 0 e, o, overflows-is m t (order (queueIn q)) ∙ h)
-
-  pub released-in : (t ≡ 0 → ⊥) → q .overflowed ≡ false → elem t (order (queueIn q)) ≡ false
-      → record { jobs = cellsOf (put m t (queueIn q)); count = q .count + 1; overflowed = false } ≡ releasedBy m t q
-  released-in e o h = rw (ne-eqb t 0 e, o, overflows-is m t (order (queueIn q)) ∙ h)

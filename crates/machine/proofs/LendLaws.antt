@@ -1,54 +1,37 @@
 -- Laws of the states that may be lent: what the tests of single cells say is what `Lendable` asks.
 -- Assumes nothing.
-use Prim.Native.Nat.{ℕ, zero, suc, _+_, _-_, _≤_, _<_, min}
-use mathlib.Core.Path.{_≡_, refl, sym, _∙_, ap, subst}
-use mathlib.Core.Bool.{Bool, true, false, not, _&&_}
-use mathlib.Core.List.{List, [], _∷_, map, List·Memᴰ, List·Memᴰ·head, List·Memᴰ·tail}
+use Prim.Native.Nat.{ℕ, zero, suc, _-_, _≤_, _<_}
+use mathlib.Core.Path.{_≡_, sym, _∙_, ap, subst}
+use mathlib.Core.Bool.{true, _&&_}
+use mathlib.Core.List.{List, [], _∷_, map, List·Memᴰ}
 use mathlib.Core.Option.{some}
 use native.Mathlib.Omega.{arith}
-use native.Mathlib.Numerals.{add-one}
-use lib.Dec.{ltb, leb, eqb}
-use lib.ListN.{length, getD, getElem?, take, drop, length-map, length-take, List·getD-eq-default}
+use lib.Dec.{eqb}
+use lib.ListN.{length, getD, getElem?, take, length-map, length-take, List·getD-eq-default}
 use lib.Seq.{getD-take, length-take-le}
-use borrow.Author.Tests.{lt-ltb, le-ltb, ltb-true, leb-true, le-leb, eqb-true, eq-eqb}
-use Rattle.meaning.specs.Lists.{elem}
-use Rattle.meaning.specs.Model.{Model, taskAt}
+use borrow.Author.Tests.{lt-ltb, le-ltb, leb-true, le-leb, eqb-true, eq-eqb}
+use Rattle.meaning.specs.Model.{Model}
 use Rattle.meaning.specs.Machine.State as M
-use Rattle.meaning.specs.Machine.State.{order}
-use Rattle.meaning.specs.Machine.Release.{overflows}
-use Rattle.meaning.specs.Zones.Proper.{ProperJob, fits, Proper}
-use Rattle.meaning.specs.Text.Choice.{pick}
+use Rattle.meaning.specs.Zones.Proper.{ProperJob, fits}
+use Rattle.model_table.specs.Right.{RightTable}
 use Rattle.meaning.specs.Text.ModelTable.{decode, clocks, locations}
-use Rattle.meaning.proofs.Tests.{and-left, and-right, and-both, not-of-false, false-of-not}
+use Rattle.meaning.proofs.Tests.{and-left, and-right}
 use Rattle.meaning.proofs.Lists.{mem-at, at-mem}
-use Rattle.meaning.proofs.Hooks.{overflows-is}
 use Rattle.meaning.proofs.Text.Choices.{by-lt}
 use Rattle.meaning.proofs.Text.Keyed.{nth-some, nth-in}
-use Rattle.model_table.specs.Right.{RightTable}
 use Rattle.model_table.specs.Parts.{workIn, deadlineIn}
 use Rattle.model_table.proofs.GivenLaws.{given-table}
 use Rattle.model_table.proofs.PartLaws.{clocks-is, locations-is, work-is, deadline-is}
-use Rattle.machine.specs.Stands.{clockMost, jobOf, cellOf, queueOf, noJob, padded, cellsOf, stateOf, held, Lendable}
-use Rattle.machine.specs.Promise.{Usable}
+use Rattle.machine.specs.Stands.{clockMost, jobOf, cellOf, taskOf, queueOf, noJob, padded, cellsOf, stateOf, held, Lendable}
+use Rattle.machine.specs.Promise.{UsableState}
 use Rattle.machine.specs.BySteps.{Lent}
-use Rattle.machine.specs.ByCell.{allTo, Small, Young, clockRight, timely, unused, jobRight}
+use Rattle.machine.specs.ByCell.{allTo, UpToEnd, Young, clockRight, timely, unused, jobRight}
 use Rattle.machine.specs.declared.Job.{Job}
 use Rattle.machine.specs.declared.State.{State}
 use Rattle.machine.proofs.Arrays.{take-out, padded-at, padded-is, padded-length, padded-read}
 use Rattle.machine.proofs.AllCells.{all-each, all-make}
-use Rattle.machine.proofs.QueueLaws.{noneThere, queue-length, queue-at, queue-out, cells-at, order-length, order-at}
-
--- ---- no task twice
-
-pub fits-make : (m : Model) (o : List ℕ) → ((k : ℕ) → k < length o → elem (getD o k 0) (drop (suc k) o) ≡ false) → fits m o ≡ true
-fits-make m [] h = refl
-fits-make m (x ∷ o) h =
-    and-both (not (overflows m x o)) (fits m o) (not-of-false (overflows-is m x o ∙ h 0 (omega arith))) (fits-make m o (λ k b. h (suc k) (omega arith)))
-
-pub fits-each : (m : Model) (o : List ℕ) → fits m o ≡ true → (k : ℕ) → k < length o → elem (getD o k 0) (drop (suc k) o) ≡ false
-fits-each m [] e k h = absurd (omega arith)
-fits-each m (x ∷ o) e zero h = sym (overflows-is m x o) ∙ false-of-not (overflows m x o) (and-left (not (overflows m x o)) (fits m o) e)
-fits-each m (x ∷ o) e (suc k) h = fits-each m o (and-right (not (overflows m x o)) (fits m o) e) k (omega arith)
+use Rattle.machine.proofs.JobLaws.{proper-timely, timely-proper}
+use Rattle.machine.proofs.QueueLaws.{noneThere, queue-length, queue-at, queue-out, cells-at, order-is}
 
 -- ---- an unused cell
 
@@ -80,7 +63,7 @@ module _ (t : List ℕ) (g : RightTable t) (s : State) where
   -- from the cells
 
   module _ (low : 1 ≤ s .location) (high : s .location ≤ locations t) (few : s .count ≤ 6) (long : length (s .clocks) ≡ 4) (room : length (s .jobs) ≡ 6)
-      (cs : allTo 4 (clockRight (s .clocks) (clocks t)) ≡ true) (js : allTo 6 (jobRight t (s .jobs) (s .count)) ≡ true) where
+      (cs : allTo 4 (clockRight (s .clocks) (clocks t)) ≡ true) (js : allTo 6 (jobRight t (s .jobs) (s .count)) ≡ true) (fit : fits (decode t) (take (s .count) (map taskOf (s .jobs))) ≡ true) where
     clock-in : (k : ℕ) → k < clocks t → k < 4 → getD (s .clocks) k 0 ≤ clockMost
     clock-in k h b = let e = all-each 4 (clockRight (s .clocks) (clocks t)) cs k b in leb-true (getD (s .clocks) k 0) clockMost (rw (lt-ltb k (clocks t) h) at e)
 
@@ -100,8 +83,7 @@ module _ (t : List ℕ) (g : RightTable t) (s : State) where
         padded-is 0 4 (s .clocks) (take (clocks t) (s .clocks)) long
         (λ k b. by-lt k (clocks t) (λ h. sym (getD-take (clocks t) (s .clocks) k 0 h)) (λ h. clock-out k h b ∙ sym (take-out (clocks t) (s .clocks) k 0 h)))
 
-    job-in : (k : ℕ) → k < s .count
-        → (timely t (getD (s .jobs) k noJob) && not (elem (getD (s .jobs) k noJob .task) (drop (k + 1) (order q)))) ≡ true
+    job-in : (k : ℕ) → k < s .count → timely t (getD (s .jobs) k noJob) ≡ true
     job-in k h = let e = all-each 6 (jobRight t (s .jobs) (s .count)) js k (omega arith) in rw (lt-ltb k (s .count) h) at e
 
     job-out : (k : ℕ) → s .count ≤ k → k < 6 → getD (s .jobs) k noJob ≡ noJob
@@ -115,12 +97,7 @@ module _ (t : List ℕ) (g : RightTable t) (s : State) where
         (λ h. job-out k h b ∙ sym (cells-at q k ∙ ap cellOf (queue-out (s .jobs) (s .count) k h))))
 
     proper-at : (k : ℕ) → k < s .count → ProperJob m (jobOf (getD (s .jobs) k noJob))
-    proper-at k h =
-        let j = getD (s .jobs) k noJob in
-        let e = and-left (timely t j) _ (job-in k h) in
-        let a = ltb-true (j .done) (workIn t (j .task)) (and-left (ltb (j .done) (workIn t (j .task))) (ltb (j .age) (deadlineIn t (j .task))) e) in
-        let b = ltb-true (j .age) (deadlineIn t (j .task)) (and-right (ltb (j .done) (workIn t (j .task))) (ltb (j .age) (deadlineIn t (j .task))) e) in
-        record { done = omega (arith, work-is t g (j .task)); age = omega (arith, deadline-is t g (j .task)) }
+    proper-at k h = timely-proper t g (getD (s .jobs) k noJob) (job-in k h)
 
     proper-jobs : (j : M.Job) → List·Memᴰ j q → ProperJob m j
     proper-jobs j w =
@@ -129,15 +106,6 @@ module _ (t : List ℕ) (g : RightTable t) (s : State) where
         let n = nth-some q (r .0) j (r .1) in
         let k : r .0 < s .count = omega arith in
         subst (ProperJob m) (sym (queue-at (s .jobs) (s .count) (r .0) k) ∙ getD-some q (r .0) noneThere j (r .1)) (proper-at (r .0) k)
-
-    no-twice : fits m (order q) ≡ true
-    no-twice =
-        let l = order-length (s .jobs) (s .count) (omega arith) in
-        fits-make m (order q) (λ k b.
-        let h : k < s .count = omega arith in
-        let j = getD (s .jobs) k noJob in
-        let e = false-of-not (elem (j .task) (drop (k + 1) (order q))) (and-right (timely t j) (not (elem (j .task) (drop (k + 1) (order q)))) (job-in k h)) in
-        rw (order-at (s .jobs) (s .count) k h) (rw add-one at e))
 
     count-held : s .count ≡ length q
     count-held = sym (queue-length (s .jobs) (s .count) (omega arith))
@@ -159,7 +127,7 @@ module _ (t : List ℕ) (g : RightTable t) (s : State) where
       proper = record {
         clocks = let a = clocks-is t g in let b = few-clocks in length-take-le (m .clocks) (s .clocks) (omega arith);
         jobs = proper-jobs;
-        fit = no-twice;
+        fit = sym (ap (fits m) (order-is (s .jobs) (s .count))) ∙ fit;
       };
       location-low = low;
       location-high = let a = locations-is t g in omega arith;
@@ -225,24 +193,15 @@ module _ (t : List ℕ) (g : RightTable t) (s : State) where
 
     pub lent-job-cells : allTo 6 (jobRight t (s .jobs) (s .count)) ≡ true
     lent-job-cells =
-        let f = lent-few in
-        let r = lent-room in
-        let l = order-length (s .jobs) (s .count) (omega arith) in
         all-make 6 (jobRight t (s .jobs) (s .count)) (λ k b. by-lt k (s .count)
-        (λ h.
-        let j = getD (s .jobs) k noJob in
-        let p = lent-proper k h in
-        let x = p .done in
-        let y = p .age in
-        let e₁ = lt-ltb (j .done) (workIn t (j .task)) (omega (arith, work-is t g (j .task))) in
-        let e₂ = lt-ltb (j .age) (deadlineIn t (j .task)) (omega (arith, deadline-is t g (j .task))) in
-        let n = fits-each m (order q) (w .proper .fit) k (omega arith) in
-        let n′ : elem (j .task) (drop (k + 1) (order q)) ≡ false = rw add-one (rw (order-at (s .jobs) (s .count) k h) at n) in
-        rw (lt-ltb k (s .count) h) (and-both (timely t j) _ (and-both _ _ e₁ e₂) (not-of-false n′)))
+        (λ h. rw (lt-ltb k (s .count) h) (proper-timely t g (getD (s .jobs) k noJob) (lent-proper k h)))
         (λ h. rw (le-ltb k (s .count) h, lent-unused k h)))
 
+    pub lent-fit : fits m (take (s .count) (map taskOf (s .jobs))) ≡ true
+    lent-fit = ap (fits m) (order-is (s .jobs) (s .count)) ∙ w .proper .fit
+
     -- what the inner functions ask of it
-    pub lent-small : Small (s .clocks)
+    pub lent-small : UpToEnd (s .clocks)
     lent-small = record { each = w .clocks }
 
     pub lent-young : ((n : ℕ) → workIn t n ≤ 10000) → ((n : ℕ) → deadlineIn t n ≤ 10000) → Young (s .jobs)
@@ -257,5 +216,5 @@ module _ (t : List ℕ) (g : RightTable t) (s : State) where
     }
 
 -- what the public functions find of a table and a state is what the steps ask
-pub usable-lent : (t : List ℕ) (s : State) → Usable t s → Lent t s
+pub usable-lent : (t : List ℕ) (s : State) → UsableState t s → Lent t s
 usable-lent t s u = record { table = given-table t (u .given); lendable = u .lendable }

@@ -5,6 +5,7 @@ pub mod ClockLaws
 pub mod Searches
 pub mod QueueLaws
 pub mod JobLaws
+pub mod ReleaseLaws
 pub mod LendLaws
 pub mod StepLaws
 pub mod SeenLaws

@@ -1,34 +1,30 @@
 -- Laws of the queue: its cells, the queue after a tick, and the queue with a new job.
 -- Assumes nothing.
 use Prim.Native.Nat.{ℕ, zero, suc, _+_, _-_, _≤_, _<_}
-use mathlib.Core.Path.{_≡_, refl, sym, _∙_, ap, subst}
+use mathlib.Core.Path.{_≡_, refl, sym, _∙_, ap}
 use mathlib.Core.Bool.{Bool, true, false}
 use mathlib.Core.List.{List, [], _∷_, map}
 use native.Mathlib.Omega.{arith}
 use native.Mathlib.Numerals.{add-one}
-use lib.Dec.{ltb, eqb}
-use lib.ListN.{length, getD, take, replicate, length-map, List·getD-map}
-use lib.Seq.{getD-take, length-take-le}
+use lib.ListN.{length, getD, take, length-map, List·getD-map}
+use lib.Seq.{ext-getD, getD-take, length-take-le}
 use borrow.Author.Tests.{lt-ltb, le-ltb, eq-eqb, ne-eqb}
 use Rattle.meaning.specs.Lists.{insertAt}
+use Rattle.meaning.specs.Model.{Model}
+use Rattle.meaning.specs.Machine.Place.{behind}
 use Rattle.meaning.specs.Machine.State as M
 use Rattle.meaning.specs.Machine.State.{order}
 use Rattle.meaning.specs.Machine.Tick.{older, worked, served}
-use Rattle.meaning.specs.Text.Choice.{pick}
+use Rattle.meaning.proofs.Hooks.{behind-le}
 use Rattle.meaning.proofs.Text.Choices.{by-lt, by-eq}
-use Rattle.machine.specs.Stands.{jobOf, cellOf, queueOf, noJob, padded, cellsOf}
-use Rattle.machine.specs.ByCell.{Young, agedCell, afterCell, leftOf, insertCell}
+use Rattle.machine.specs.Stands.{jobOf, cellOf, taskOf, queueOf, noJob, cellsOf}
+use Rattle.machine.specs.ByCell.{agedCell, afterCell, leftOf, insertCell}
 use Rattle.machine.specs.declared.Job.{Job}
-use Rattle.machine.proofs.Arrays.{map-at, map-out, take-out}
+use Rattle.machine.proofs.Arrays.{map-at, map-out, take-out, padded-length, padded-at, Filled}
 
 -- what an unused cell stands for
 abbrev pub noneThere : M.Job
 noneThere = jobOf noJob
-
-none-at : (n k : ℕ) → getD (replicate n noJob) k noJob ≡ noJob
-none-at zero k = refl
-none-at (suc n) zero = refl
-none-at (suc n) (suc k) = none-at n k
 
 -- ---- the queue in its cells
 
@@ -44,11 +40,33 @@ queue-out js n k h = List·getD-map jobOf (take n js) k noJob ∙ ap jobOf (take
 pub cells-at : (q : List M.Job) (k : ℕ) → getD (map cellOf q) k noJob ≡ cellOf (getD q k noneThere)
 cells-at q k = List·getD-map cellOf q k noneThere
 
-pub order-length : (js : List Job) (n : ℕ) → n ≤ length js → length (order (queueOf js n)) ≡ n
-order-length js n l = length-map (queueOf js n) (λ (j : M.Job). j .task) ∙ queue-length js n l
+-- the cells of the tasks, when all are filled
+pub tasks-filled : (js : List Job) (r : List ℕ) (k : ℕ) → length js ≡ 6 → Filled 0 6 (λ (i : ℕ). getD js i noJob .task) r k → 6 ≤ k → r ≡ map taskOf js
+tasks-filled js r k e w h =
+    let a = w .long in
+    ext-getD 0 r (map taskOf js) (a ∙ sym (length-map js taskOf ∙ e))
+    (λ i b. w .cells i (omega arith) ∙ sym (List·getD-map taskOf js i noJob))
 
-pub order-at : (js : List Job) (n k : ℕ) → k < n → getD (order (queueOf js n)) k 0 ≡ getD js k noJob .task
-order-at js n k h = List·getD-map (λ (j : M.Job). j .task) (queueOf js n) k noneThere ∙ ap (λ (j : M.Job). j .task) (queue-at js n k h)
+-- the tasks of the queue
+pub order-is : (js : List Job) (n : ℕ) → take n (map taskOf js) ≡ order (queueOf js n)
+order-is js zero = refl
+order-is [] (suc n) = refl
+order-is (j ∷ js) (suc n) = ap (λ (l : List ℕ). j .task ∷ l) (order-is js n)
+
+-- the first place of a new job is one of the queue
+pub behind-queue : (m : Model) (t : ℕ) (q : List M.Job) → behind m t (order q) ≤ length q
+behind-queue m t q = let a = behind-le m t (order q) in let b = length-map q (λ (j : M.Job). j .task) in omega arith
+
+-- ---- a queue back from its cells
+
+pub queue-cells : (q : List M.Job) → length q ≤ 6 → queueOf (cellsOf q) (length q) ≡ q
+queue-cells q h =
+    let l = padded-length noJob 6 (map cellOf q) in
+    let e = queue-length (cellsOf q) (length q) (omega arith) in
+    ext-getD noneThere (queueOf (cellsOf q) (length q)) q e
+    (λ k b.
+    let c : k < length q = omega arith in
+    queue-at (cellsOf q) (length q) k c ∙ ap jobOf (padded-at noJob 6 (map cellOf q) k (omega arith) ∙ cells-at q k))
 
 -- ---- the queue after a tick
 
@@ -132,11 +150,6 @@ module _ {A : Type 0} (d x : A) where
   insert-behind (y ∷ q) (suc p) zero h g = absurd (omega arith)
   insert-behind (y ∷ q) (suc p) (suc k) h g = insert-behind q p k (omega arith) (omega arith)
 
-  pub insert-length : (q : List A) (p : ℕ) → length (insertAt p x q) ≡ suc (length q)
-  insert-length q zero = refl
-  insert-length [] (suc p) = refl
-  insert-length (y ∷ q) (suc p) = ap suc (insert-length q p)
-
 module _ (js : List Job) (n p : ℕ) (j : Job) (l : n ≤ length js) (g : p ≤ n) where
   insert-is : (k : ℕ) → insertCell js n p j k ≡ cellOf (getD (insertAt p (jobOf j) (queueOf js n)) k noneThere)
   insert-is k =
@@ -169,14 +182,3 @@ module _ (js : List Job) (n p : ℕ) (j : Job) (k : ℕ) where
 
   pub insert-moved : p ≤ k → (k ≡ p → ⊥) → k ≤ n → getD js (k - 1) noJob ≡ insertCell js n p j k
   insert-moved h e g = rw (le-ltb k p h, ne-eqb k p e, le-ltb n k g)
-
--- ---- no job at all
-
-pub young-none : Young (replicate 6 noJob)
-young-none = record { long = refl; age = λ k. six-age k; done = λ k. six-done k }
-  where
-    six-age : (k : ℕ) → getD (replicate 6 noJob) k noJob .age ≤ 10000
-    six-age k = rw (none-at 6 k) (omega arith)
-
-    six-done : (k : ℕ) → getD (replicate 6 noJob) k noJob .done ≤ 10000
-    six-done k = rw (none-at 6 k) (omega arith)

@@ -1,64 +1,54 @@
--- Laws of a search from the head of a list on: the first that passes a test, the place of a new job, a number that stands there.
+-- Laws of a search down a list: the first that passes a test.
 -- Assumes nothing.
 use Prim.Native.Nat.{ℕ, zero, suc, _+_, _≤_, _<_}
 use mathlib.Core.Path.{_≡_, refl, sym, _∙_, ap, subst}
-use mathlib.Core.Bool.{Bool, true, false, cond, _||_}
+use mathlib.Core.Bool.{Bool, true, false, cond}
 use mathlib.Core.List.{List, [], _∷_}
 use native.Mathlib.Omega.{arith}
-use native.Mathlib.Numerals.{add-one}
 use native.Mathlib.Decide.{ℕ-discrete}
-use lib.Dec.{eqb}
-use lib.ListN.{length, getD, drop}
-use borrow.Author.Tests.{eq-eqb, ne-eqb}
-use Rattle.meaning.specs.Lists.{next, first, elem}
+use lib.ListN.{length, getD}
+use Rattle.meaning.specs.Lists.{next, first}
+use Rattle.meaning.specs.Machine.Place.{placeFrom}
+use Rattle.meaning.proofs.Machine.Place.{placeFrom-fits, fits-unique}
 
 module _ {A : Type 0} (f : A → Bool) (d : A) where
-  -- the first k of the list do not pass the test
-  pub record Sought (q : List A) (k : ℕ) : Type 0 where
+  -- of the list those from one place up to k do not pass the test
+  pub record Sought (q : List A) (from k : ℕ) : Type 0 where
+    pub above : from ≤ k
     pub upto : k ≤ length q
-    pub none : (i : ℕ) → i < k → f (getD q i d) ≡ false
+    pub none : (i : ℕ) → from ≤ i → i < k → f (getD q i d) ≡ false
 
-  pub sought-start : (q : List A) → Sought q 0
-  sought-start q = record { upto = omega arith; none = λ i h. absurd (omega arith) }
+  pub sought-start : (q : List A) (from : ℕ) → from ≤ length q → Sought q from from
+  sought-start q from h = record { above = omega arith; upto = h; none = λ i a b. absurd (omega arith) }
 
-  pub sought-more : (q : List A) (k : ℕ) → Sought q k → k < length q → f (getD q k d) ≡ false → Sought q (k + 1)
-  sought-more q k w h e = record { upto = omega arith; none = λ i b. go i b (ℕ-discrete i k) }
+  pub sought-more : (q : List A) (from k : ℕ) → Sought q from k → k < length q → f (getD q k d) ≡ false → Sought q from (k + 1)
+  sought-more q from k w h e = record { above = let u = w .above in omega arith; upto = omega arith; none = λ i a b. go i a b (ℕ-discrete i k) }
     where
-      go : (i : ℕ) → i < k + 1 → Dec (i ≡ k) → f (getD q i d) ≡ false
-      go i b (yes z) = subst (λ (j : ℕ). f (getD q j d) ≡ false) (sym z) e
-      go i b (no z) = w .none i (omega arith)
+      go : (i : ℕ) → from ≤ i → i < k + 1 → Dec (i ≡ k) → f (getD q i d) ≡ false
+      go i a b (yes z) = subst (λ (j : ℕ). f (getD q j d) ≡ false) (sym z) e
+      go i a b (no z) = w .none i a (omega arith)
 
-  pub first-met : (q : List A) (k : ℕ) → Sought q k → k < length q → f (getD q k d) ≡ true → first f q ≡ suc k
+  pub first-met : (q : List A) (k : ℕ) → Sought q 0 k → k < length q → f (getD q k d) ≡ true → first f q ≡ suc k
   first-met [] k w h e = absurd (omega arith)
   first-met (x ∷ q) zero w h e = ap (λ (b : Bool). cond {A = ℕ} b 1 (next (first f q))) e
   first-met (x ∷ q) (suc k) w h e =
-      ap (λ (b : Bool). cond {A = ℕ} b 1 (next (first f q))) (w .none 0 (omega arith))
-      ∙ ap next (first-met q k (record { upto = omega arith; none = λ i b. w .none (suc i) (omega arith) }) (omega arith) e)
+      ap (λ (b : Bool). cond {A = ℕ} b 1 (next (first f q))) (w .none 0 (omega arith) (omega arith))
+      ∙ ap next (first-met q k (record { above = omega arith; upto = omega arith; none = λ i a b. w .none (suc i) (omega arith) (omega arith) }) (omega arith) e)
 
-  pub first-no : (q : List A) (k : ℕ) → Sought q k → length q ≤ k → first f q ≡ 0
+  pub first-no : (q : List A) (k : ℕ) → Sought q 0 k → length q ≤ k → first f q ≡ 0
   first-no [] k w h = refl
   first-no (x ∷ q) zero w h = absurd (omega arith)
   first-no (x ∷ q) (suc k) w h =
-      ap (λ (b : Bool). cond {A = ℕ} b 1 (next (first f q))) (w .none 0 (omega arith))
-      ∙ ap next (first-no q k (record { upto = let u = w .upto in omega arith; none = λ i b. w .none (suc i) (omega arith) }) (omega arith))
+      ap (λ (b : Bool). cond {A = ℕ} b 1 (next (first f q))) (w .none 0 (omega arith) (omega arith))
+      ∙ ap next (first-no q k (record { above = omega arith; upto = let u = w .upto in omega arith; none = λ i a b. w .none (suc i) (omega arith) (omega arith) }) (omega arith))
 
--- ---- a number that stands in the list from k on
+  -- the place of a new job is where the search ends: at the first that it beats, or behind the last
+  pub sought-at : (q : List A) (from k : ℕ) → Sought q from k → k < length q → f (getD q k d) ≡ true → k ≡ placeFrom from f q
+  sought-at q from k w h e =
+      fits-unique d from f q k (placeFrom from f q) (record { from = w .above; within = w .upto; ahead = w .none; at = λ b. e })
+      (placeFrom-fits d from f q (let a = w .above in let b = w .upto in omega arith))
 
-pub elem-hit : (t : ℕ) (o : List ℕ) (k : ℕ) → k < length o → getD o k 0 ≡ t → elem t (drop k o) ≡ true
-elem-hit t [] k h e = absurd (omega arith)
-elem-hit t (x ∷ o) zero h e = ap (λ (b : Bool). b || elem t o) (eq-eqb t x (sym e))
-elem-hit t (x ∷ o) (suc k) h e = elem-hit t o k (omega arith) e
-
-elem-suc : (t : ℕ) (o : List ℕ) (k : ℕ) → k < length o → (getD o k 0 ≡ t → ⊥) → elem t (drop k o) ≡ elem t (drop (suc k) o)
-elem-suc t [] k h e = absurd (omega arith)
-elem-suc t (x ∷ o) zero h e = ap (λ (b : Bool). b || elem t o) (ne-eqb t x (λ z. e (sym z)))
-elem-suc t (x ∷ o) (suc k) h e = elem-suc t o k (omega arith) e
-
-pub elem-pass : (t : ℕ) (o : List ℕ) (k : ℕ) → k < length o → (getD o k 0 ≡ t → ⊥) → elem t (drop k o) ≡ elem t (drop (k + 1) o)
-elem-pass t o k h e = elem-suc t o k h e ∙ ap (λ (j : ℕ). elem t (drop j o)) (sym (add-one k))
-
-pub elem-end : (t : ℕ) (o : List ℕ) (k : ℕ) → length o ≤ k → elem t (drop k o) ≡ false
-elem-end t [] zero h = refl
-elem-end t [] (suc k) h = refl
-elem-end t (x ∷ o) zero h = absurd (omega arith)
-elem-end t (x ∷ o) (suc k) h = elem-end t o k (omega arith)
+  pub sought-last : (q : List A) (from k : ℕ) → Sought q from k → length q ≤ k → k ≡ placeFrom from f q
+  sought-last q from k w h =
+      fits-unique d from f q k (placeFrom from f q) (record { from = w .above; within = w .upto; ahead = w .none; at = λ b. absurd (omega arith) })
+      (placeFrom-fits d from f q (let a = w .above in let b = w .upto in omega arith))

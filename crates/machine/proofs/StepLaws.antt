@@ -1,49 +1,44 @@
 -- Laws of the steps: what the cells say of a tick, an edge and the start is what the machine's definitions say.
 -- Assumes nothing.
-use Prim.Native.Nat.{ℕ, zero, suc, _+_, _-_, _≤_, _<_}
-use mathlib.Core.Path.{_≡_, refl, sym, _∙_, ap, ap₂, subst}
-use mathlib.Core.Bool.{Bool, true, false, cond, _&&_, _||_, true≢false}
-use mathlib.Core.List.{List, [], _∷_, map, List·Memᴰ}
+use Prim.Native.Nat.{ℕ, zero, suc, _+_, _≤_, _<_}
+use mathlib.Core.Path.{_≡_, refl, sym, _∙_, ap, ap₂}
+use mathlib.Core.Bool.{Bool, true, false, cond, _&&_}
+use mathlib.Core.List.{List, [], _∷_, map}
 use mathlib.Core.Option.{Option, none, some}
 use native.Mathlib.Omega.{arith}
-use lib.Dec.{ltb, leb, eqb}
-use lib.ListN.{length, getD, take, set, replicate, length-map, getD-replicate, length-replicate, List·getD-eq-default}
-use lib.Seq.{ext-getD, length-take-le}
-use borrow.Author.Tests.{eq-eqb, ne-eqb, le-leb}
-use Rattle.meaning.specs.Lists.{nth1, nth1D, set1, every}
-use Rattle.meaning.specs.Model.{Limit, Bound, Edge, Model, locationAt, releases, leavesAt, target, released, releasedAtStart}
+use lib.Dec.{leb}
+use lib.ListN.{length, getD, set, replicate, length-map}
+use Rattle.meaning.specs.Lists.{nth1, nth1D, every}
+use Rattle.meaning.specs.Model.{Bound, Edge, Model, locationAt, released, releasedAtStart}
 use Rattle.meaning.specs.Machine.State as M
 use Rattle.meaning.specs.Machine.State.{order}
-use Rattle.meaning.specs.Machine.Place.{placeOf}
-use Rattle.meaning.specs.Machine.Release.{overflows, overflowsAny, newJob, put, putAll}
-use Rattle.meaning.specs.Machine.Tick.{limitTest, tickAllowed, finishes, served, tickTo, late}
+use Rattle.meaning.specs.Machine.Release.{overflowsAny, putAll}
+use Rattle.meaning.specs.Machine.Tick.{limitTest, finishes, served, tickTo, late}
 use Rattle.meaning.specs.Machine.Edge.{boundTest, resetAll, guardTest, entered}
 use Rattle.meaning.specs.Machine.Step as S
-use Rattle.meaning.specs.Machine.Step.{tick, edge, edgeAllowed, allowed, judged, moved, movedBy, act}
+use Rattle.meaning.specs.Machine.Step.{tick, edge, edgeAllowed, allowed, judged, movedBy, act}
 use Rattle.meaning.specs.Machine.Run.{start}
 use Rattle.meaning.specs.Text.Choice.{pick}
 use Rattle.meaning.specs.Text.Refusals.{notAllowed, clockEnd}
-use Rattle.meaning.specs.Text.ModelTable.{decode, clocks, edges}
-use Rattle.meaning.proofs.Hooks.{released-is, releasedAtStart-is, leavesAt-is, target-is, guardTest-is, start-fits}
-use Rattle.meaning.proofs.Tests.{and-left, and-right, and-both}
-use Rattle.meaning.proofs.Lists.{every-mem, mem-every, mem-at, at-mem}
-use Rattle.meaning.proofs.Text.Keyed.{nth-some, nth-in}
 use Rattle.model_table.specs.Right.{RightTable}
-use Rattle.model_table.specs.Parts.{releasedIn, limitsOf, fromIn, toIn, guardOf, resetsOf, edgeOf}
-use Rattle.model_table.proofs.PartLaws.{clocks-is, limits-is, edge-is, edge-no}
-use Rattle.model_table.proofs.PartLaws as P
-use Rattle.machine.specs.Stands.{clockMost, jobOf, cellOf, queueOf, noJob, padded, cellsOf, stateOf, held, Lendable}
-use Rattle.machine.specs.Promise.{Said, went, missed, overflow, refused, withinEnd, told, answered}
+use Rattle.meaning.specs.Text.ModelTable.{decode, edges}
+use Rattle.meaning.proofs.Hooks.{releases-room, guardTest-is}
+use Rattle.meaning.proofs.Tests.{never}
+use Rattle.meaning.proofs.Text.Choices.{by-lt}
+use Rattle.model_table.specs.Parts.{limitsOf, guardOf, resetsOf, edgeOf}
+use Rattle.model_table.proofs.PartLaws.{limits-is, edge-is, edge-no}
+use Rattle.home.specs.Asked.{leavesIf, leavesBy, targetIf, targetBy, releasedIf, releasedBy}
+use Rattle.home.proofs.HomeLaws.{released-right}
+use Rattle.machine.specs.Stands.{clockMost, queueOf, padded, cellsOf, stateOf, held, Lendable}
+use Rattle.machine.specs.Promise.{went, missed, overflow, refused, withinEnd, told, answered}
 use Rattle.machine.specs.ByCell.{allTo, leftOf}
-use Rattle.machine.specs.ByQueue.{queueIn, releasedBy}
 use Rattle.machine.specs.BySteps.{movedSaid}
 use Rattle.machine.specs.declared.Job.{Job}
 use Rattle.machine.specs.declared.State.{State}
-use Rattle.machine.specs.declared.queue.Queue.{Queue}
-use Rattle.machine.proofs.Arrays.{padded-length, padded-at, padded-is, padded-read}
-use Rattle.machine.proofs.AllCells.{all-each, all-make}
-use Rattle.machine.proofs.QueueLaws.{noneThere, queue-length, queue-at, cells-at, served-length, insert-length}
-use Rattle.machine.proofs.LendLaws.{lent-jobs, lent-count, lent-few, lent-long}
+use Rattle.machine.proofs.Arrays.{padded-read}
+use Rattle.machine.proofs.QueueLaws.{queue-cells, served-length}
+use Rattle.machine.proofs.LendLaws.{lent-count, lent-few}
+use Rattle.machine.proofs.ReleaseLaws.{putAll-length, proper-tasks}
 
 -- ---- tests of a list and of its cells
 
@@ -89,17 +84,6 @@ reset-padded n [] cs = refl
 reset-padded n (zero ∷ rs) cs = reset-padded n rs cs
 reset-padded n (suc k ∷ rs) cs = ap (resetAll rs) (set-padded n cs k) ∙ reset-padded n rs (set cs k 0)
 
--- ---- a queue back from its cells
-
-pub queue-cells : (q : List M.Job) → length q ≤ 6 → queueOf (cellsOf q) (length q) ≡ q
-queue-cells q h =
-    let l = padded-length noJob 6 (map cellOf q) in
-    let e = queue-length (cellsOf q) (length q) (omega arith) in
-    ext-getD noneThere (queueOf (cellsOf q) (length q)) q e
-    (λ k b.
-    let c : k < length q = omega arith in
-    queue-at (cellsOf q) (length q) k c ∙ ap jobOf (padded-at noJob 6 (map cellOf q) k (omega arith) ∙ cells-at q k))
-
 -- ---- a reply
 
 pub told-went : (s : State) (x : M.State) (k : ℕ) → k ≡ 0 → told s (judged x k) ≡ went (held x)
@@ -137,9 +121,6 @@ module _ (t : List ℕ) (g : RightTable t) (s : State) (w : Lendable (decode t) 
   pub tick-within : allTo 4 (λ k. leb (getD (padded 0 4 (map suc (x .clocks))) k 0) clockMost) ≡ withinEnd x tick
   tick-within = all-cells 0 (λ (c : ℕ). leb c clockMost) refl 4 (map suc (x .clocks)) grown-length
 
-  lent-queue : length (x .queue) ≤ 6
-  lent-queue = let a = lent-count t g s w in let b = lent-few t g s w in omega arith
-
   -- the queue after the tick, in its cells
   module _ (b : Bool) (js : List Job) (n : ℕ) (e : js ≡ cellsOf (served b (x .queue))) (f : n ≡ leftOf (s .count) b) where
     left-is : n ≡ length (served b (x .queue))
@@ -176,12 +157,22 @@ module _ (t : List ℕ) (g : RightTable t) (s : State) (w : Lendable (decode t) 
 
   -- ---- an edge
 
-  pub edge-unknown : (n : ℕ) → (1 ≤ n → edges t < n) → refused notAllowed 0 s ≡ answered m s (edge n)
-  edge-unknown n h = rw (edge-no t g n h)
+  -- an edge that leaves the location is in the model
+  edge-there : (n : ℕ) → leavesBy m n (s .location) ≡ true → nth1 (m .edges) n ≡ some (edgeOf t n)
+  edge-there n e =
+      by-lt (edges t) n (λ h. absurd (out (λ k. h)))
+      (λ h. by-lt 0 n (λ k. edge-is t g n k h) (λ k. absurd (out (λ j. absurd (omega arith)))))
+    where
+      out : (1 ≤ n → edges t < n) → ⊥
+      out h = never e (ap (λ (o : Option Edge). leavesIf o (s .location)) (edge-no t g n h))
 
-  edge-allowed : (n : ℕ) → 1 ≤ n → n ≤ edges t → allowed m x (edge n) ≡ (eqb (fromIn t n) (s .location) && every (boundTest (x .clocks)) (guardOf t n))
-  edge-allowed n a b =
-      ap (edgeAllowed m x) (edge-is t g n a b) ∙ ap₂ (λ (c d : Bool). c && d) (leavesAt-is (edgeOf t n) (s .location)) (guardTest-is m x (edgeOf t n))
+  -- another is not allowed
+  edge-not : (o : Option Edge) → leavesIf o (s .location) ≡ false → edgeAllowed m x o ≡ false
+  edge-not none e = refl
+  edge-not (some y) e = ap (λ (b : Bool). b && guardTest m x y) e
+
+  pub edge-elsewhere : (n : ℕ) → leavesBy m n (s .location) ≡ false → refused notAllowed 0 s ≡ answered m s (edge n)
+  edge-elsewhere n e = rw (edge-not (nth1 (m .edges) n) e)
 
   guard-same : (n : ℕ) → every (boundTest (s .clocks)) (guardOf t n) ≡ every (boundTest (x .clocks)) (guardOf t n)
   guard-same n =
@@ -195,124 +186,53 @@ module _ (t : List ℕ) (g : RightTable t) (s : State) (w : Lendable (decode t) 
       boundIs : ℕ → ℕ → Bound → Bool
       boundIs i j b = Rattle.meaning.specs.Numbers.within i j (b .c)
 
-  pub edge-elsewhere : (n : ℕ) → 1 ≤ n → n ≤ edges t → (fromIn t n ≡ s .location → ⊥) → refused notAllowed 0 s ≡ answered m s (edge n)
-  edge-elsewhere n a b h = rw (edge-allowed n a b, ne-eqb (fromIn t n) (s .location) h)
+  edge-allowed : (n : ℕ) → leavesBy m n (s .location) ≡ true → allowed m x (edge n) ≡ every (boundTest (s .clocks)) (guardOf t n)
+  edge-allowed n e =
+      let h = edge-there n e in
+      ap (edgeAllowed m x) h
+      ∙ ap₂ (λ (c d : Bool). c && d) (sym (ap (λ (o : Option Edge). leavesIf o (s .location)) h) ∙ e) (guardTest-is m x (edgeOf t n)) ∙ sym (guard-same n)
 
-  pub edge-guarded : (n : ℕ) → 1 ≤ n → n ≤ edges t → fromIn t n ≡ s .location → every (boundTest (s .clocks)) (guardOf t n) ≡ false → refused notAllowed 0 s ≡ answered m s (edge n)
-  edge-guarded n a b h e =
-      let f = sym (guard-same n) ∙ e in
-      let d : allowed m x (edge n) ≡ false = edge-allowed n a b ∙ rw (eq-eqb (fromIn t n) (s .location) h, f) in
-      rw d
+  pub edge-guarded : (n : ℕ) → leavesBy m n (s .location) ≡ true → every (boundTest (s .clocks)) (guardOf t n) ≡ false
+      → refused notAllowed 0 s ≡ answered m s (edge n)
+  edge-guarded n e f = rw (edge-allowed n e ∙ f)
 
-  -- the state that the edge enters
-  entered-is : (n : ℕ) → record {
-    location = toIn t n;
-    clocks = resetAll (resetsOf t n) (s .clocks);
-    jobs = cellsOf (putAll m (releases (locationAt m (toIn t n))) (x .queue));
-    count = length (putAll m (releases (locationAt m (toIn t n))) (x .queue));
-  } ≡ held (entered m x (edgeOf t n))
-  entered-is n =
-      let z = ap (λ (y : State). y .clocks) (w .unused) in
-      let a : resetAll (resetsOf t n) (s .clocks) ≡ padded 0 4 (resetAll (resetsOf t n) (x .clocks)) = ap (resetAll (resetsOf t n)) z ∙ reset-padded 4 (resetsOf t n) (x .clocks) in
-      go (target (edgeOf t n) (s .location)) (sym (target-is (edgeOf t n) (s .location))) _ a (released m (edgeOf t n)) (sym (released-is m (edgeOf t n)))
+  -- what the edge, if there is one, comes to
+  told-moved : (o : Option Edge) (y : Edge) → o ≡ some y → (cs : List ℕ) → cs ≡ padded 0 4 (resetAll (y .resets) (x .clocks))
+      → pick (overflowsAny m (releasedIf m o) (order (x .queue))) (overflow s)
+      (went (record { location = targetIf o (s .location); clocks = cs; jobs = cellsOf (putAll m (releasedIf m o) (x .queue)); count = length (putAll m (releasedIf m o) (x .queue)) }))
+      ≡ told s (movedBy m x o)
+  told-moved o y h cs e = rw (h, e) (go (overflowsAny m (released m y) (order (x .queue))))
     where
-      go : (l : ℕ) → toIn t n ≡ l → (cs : List ℕ) → resetAll (resetsOf t n) (s .clocks) ≡ cs → (ts : List ℕ) → releases (locationAt m (toIn t n)) ≡ ts
-          → _≡_ {A = State} (record {
-            location = toIn t n;
-            clocks = resetAll (resetsOf t n) (s .clocks);
-            jobs = cellsOf (putAll m (releases (locationAt m (toIn t n))) (x .queue));
-            count = length (putAll m (releases (locationAt m (toIn t n))) (x .queue));
-          }) (record { location = l; clocks = cs; jobs = cellsOf (putAll m ts (x .queue)); count = length (putAll m ts (x .queue)) })
-      go l e₁ cs e₂ ts e₃ =
-          ap (λ (y : ℕ). record { location = y; clocks = resetAll (resetsOf t n) (s .clocks); jobs = cellsOf (putAll m (releases (locationAt m (toIn t n))) (x .queue)); count = length (putAll m (releases (locationAt m (toIn t n))) (x .queue)) }) e₁
-          ∙ ap (λ (y : List ℕ). record { location = l; clocks = y; jobs = cellsOf (putAll m (releases (locationAt m (toIn t n))) (x .queue)); count = length (putAll m (releases (locationAt m (toIn t n))) (x .queue)) }) e₂
-          ∙ ap (λ (y : List ℕ). record { location = l; clocks = cs; jobs = cellsOf (putAll m y (x .queue)); count = length (putAll m y (x .queue)) }) e₃
-
-  told-moved : (n : ℕ) → movedSaid m s (toIn t n) (resetAll (resetsOf t n) (s .clocks)) ≡ told s (moved m x (edgeOf t n))
-  told-moved n =
-      ap (λ (y : State). pick (overflowsAny m (releases (locationAt m (toIn t n))) (order (x .queue))) (overflow s) (went y)) (entered-is n)
-      ∙ ap (λ (ts : List ℕ). pick (overflowsAny m ts (order (x .queue))) (overflow s) (went (held (entered m x (edgeOf t n))))) (sym (released-is m (edgeOf t n)))
-      ∙ go (overflowsAny m (released m (edgeOf t n)) (order (x .queue)))
-    where
-      go : (b : Bool) → pick b (overflow s) (went (held (entered m x (edgeOf t n)))) ≡ told s (cond b S.overflow (S.went (entered m x (edgeOf t n))))
+      go : (b : Bool) → pick b (overflow s) (went (held (entered m x y))) ≡ told s (cond b S.overflow (S.went (entered m x y)))
       go true = refl
       go false = refl
 
-  pub edge-moved : (n : ℕ) → 1 ≤ n → n ≤ edges t → fromIn t n ≡ s .location → every (boundTest (s .clocks)) (guardOf t n) ≡ true
-      → movedSaid m s (toIn t n) (resetAll (resetsOf t n) (s .clocks)) ≡ answered m s (edge n)
-  edge-moved n a b h e =
-      let f = sym (guard-same n) ∙ e in
-      let d : allowed m x (edge n) ≡ true = edge-allowed n a b ∙ rw (eq-eqb (fromIn t n) (s .location) h, f) in
-      let r : act m x (edge n) ≡ moved m x (edgeOf t n) = ap (movedBy m x) (edge-is t g n a b) in
-      told-moved n ∙ ap (told s) (sym r) ∙ rw d
+  pub edge-moved : (n : ℕ) → leavesBy m n (s .location) ≡ true → every (boundTest (s .clocks)) (guardOf t n) ≡ true
+      → (cs : List ℕ) → cs ≡ resetAll (resetsOf t n) (s .clocks) → movedSaid m s n cs ≡ answered m s (edge n)
+  edge-moved n e f cs z =
+      let r : resetAll (resetsOf t n) (s .clocks) ≡ padded 0 4 (resetAll (resetsOf t n) (x .clocks)) =
+      ap (λ (y : State). resetAll (resetsOf t n) (y .clocks)) (w .unused) ∙ reset-padded 4 (resetsOf t n) (x .clocks) in
+      told-moved (nth1 (m .edges) n) (edgeOf t n) (edge-there n e) cs (z ∙ r) ∙ rw (edge-allowed n e ∙ f)
 
--- ---- releases
+  -- each way through an allowed edge
+  module _ (n : ℕ) (cs : List ℕ) where
+    pub moved-over : overflowsAny m (releasedBy m n) (order (x .queue)) ≡ true → overflow s ≡ movedSaid m s n cs
+    moved-over e = rw e
 
-or-none : (b : Bool) → (b || false) ≡ b
-or-none true = refl
-or-none false = refl
+    pub moved-went : overflowsAny m (releasedBy m n) (order (x .queue)) ≡ false → (l : ℕ) (js : List Job) (k : ℕ) → l ≡ targetBy m n (s .location)
+        → js ≡ cellsOf (putAll m (releasedBy m n) (x .queue)) → k ≡ s .count + length (releasedBy m n)
+        → went (record { location = l; clocks = cs; jobs = js; count = k }) ≡ movedSaid m s n cs
+    moved-went e l js k a b c =
+        let d : k ≡ length (putAll m (releasedBy m n) (x .queue)) = omega (arith, c, lent-count t g s w, putAll-length m (releasedBy m n) (x .queue)) in
+        rw (e, a, b, d)
 
-pub record ReleasedAll (m : Model) (ts : List ℕ) (q : List M.Job) (r : Queue) : Type 0 where
-  pub over : r .overflowed ≡ overflowsAny m ts (order q)
-  pub jobs : overflowsAny m ts (order q) ≡ false → r .jobs ≡ cellsOf (putAll m ts q)
-  pub count : overflowsAny m ts (order q) ≡ false → r .count ≡ length (putAll m ts q)
-
-pub released-all : (m : Model) (l : ℕ) (js : List Job) (n : ℕ) → js ≡ cellsOf (queueOf js n) → n ≡ length (queueOf js n)
-    → ReleasedAll m (releases (locationAt m l)) (queueOf js n) (releasedBy m (locationAt m l .task) (record { jobs = js; count = n; overflowed = false }))
-released-all m l js n e f = go (eqb (locationAt m l .task) 0) refl
-  where
-    task : ℕ
-    task = locationAt m l .task
-
-    before : Queue
-    before = record { jobs = js; count = n; overflowed = false }
-
-    in-queue : (o : Bool) → overflows m task (order (queueOf js n)) ≡ o
-        → ReleasedAll m (task ∷ []) (queueOf js n) (pick o (record { jobs = js; count = n; overflowed = true }) (record { jobs = cellsOf (put m task (queueOf js n)); count = n + 1; overflowed = false }))
-    in-queue true q = record {
-      over = sym (or-none (overflows m task (order (queueOf js n))) ∙ q);
-      jobs = λ h. absurd (true≢false (sym q ∙ sym (or-none (overflows m task (order (queueOf js n)))) ∙ h));
-      count = λ h. absurd (true≢false (sym q ∙ sym (or-none (overflows m task (order (queueOf js n)))) ∙ h));
-    }
-    in-queue false q = record {
-      over = sym (or-none (overflows m task (order (queueOf js n))) ∙ q);
-      jobs = λ h. refl;
-      count = λ h. let z = insert-length noneThere (newJob task) (queueOf js n) (placeOf m task (queueOf js n)) in omega (arith, z);
-    }
-
-    go : (b : Bool) → eqb task 0 ≡ b
-        → ReleasedAll m (cond b [] (task ∷ [])) (queueOf js n)
-        (pick (b || false) before
-        (pick (overflows m task (order (queueOf js n))) (record { jobs = js; count = n; overflowed = true }) (record { jobs = cellsOf (put m task (queueOf js n)); count = n + 1; overflowed = false })))
-    go true q = record { over = refl; jobs = λ h. e; count = λ h. f }
-    go false q = in-queue (overflows m task (order (queueOf js n))) refl
-
--- a release adds at most one job
-pub released-few : (m : Model) (t : ℕ) (q : Queue) → releasedBy m t q .count ≤ q .count + 1
-released-few m t q = go (eqb t 0 || q .overflowed) (overflows m t (order (queueIn q)))
-  where
-    go : (a b : Bool) → (pick a q (pick b (record { jobs = q .jobs; count = q .count; overflowed = true }) (record { jobs = cellsOf (put m t (queueIn q)); count = q .count + 1; overflowed = false }))) .count ≤ q .count + 1
-    go true b = omega arith
-    go false true = omega arith
-    go false false = omega arith
-
--- the release at a location, of a task read from the table
-pub released-by : (t : List ℕ) → RightTable t → (l task : ℕ) → task ≡ releasedIn t l → (js : List Job) (n : ℕ) → js ≡ cellsOf (queueOf js n) → n ≡ length (queueOf js n)
-    → (r : Queue) → r ≡ releasedBy (decode t) task (record { jobs = js; count = n; overflowed = false }) → ReleasedAll (decode t) (releases (locationAt (decode t) l)) (queueOf js n) r
-released-by t g l task e js n f h r q =
-    subst (ReleasedAll (decode t) (releases (locationAt (decode t) l)) (queueOf js n))
-    (sym (q ∙ ap (λ (k : ℕ). releasedBy (decode t) k (record { jobs = js; count = n; overflowed = false })) (e ∙ P.released-is t g l)))
-    (released-all (decode t) l js n f h)
-
-module _ (m : Model) (s : State) (l : ℕ) (cs : List ℕ) (r : Queue) (w : ReleasedAll m (releases (locationAt m l)) (queueOf (s .jobs) (s .count)) r) where
-  pub moved-over : r .overflowed ≡ true → overflow s ≡ movedSaid m s l cs
-  moved-over e = rw (sym (w .over) ∙ e)
-
-  pub moved-went : r .overflowed ≡ false → went (record { location = l; clocks = cs; jobs = r .jobs; count = r .count }) ≡ movedSaid m s l cs
-  moved-went e =
-      let o = sym (w .over) ∙ e in
-      ap₂ (λ (y : List Job) (k : ℕ). went (record { location = l; clocks = cs; jobs = y; count = k })) (w .jobs o) (w .count o)
-      ∙ ap (λ (b : Bool). pick b (overflow s) (went (record { location = l; clocks = cs; jobs = cellsOf (putAll m (releases (locationAt m l)) (queueOf (s .jobs) (s .count))); count = length (putAll m (releases (locationAt m l)) (queueOf (s .jobs) (s .count))) }))) (sym o)
+  -- the queue has room for what the edge releases
+  pub moved-room : (n : ℕ) → overflowsAny m (releasedBy m n) (order (x .queue)) ≡ false → s .count + length (releasedBy m n) ≤ 6
+  moved-room n free =
+      let a = releases-room m (g .right .tasks-high) (releasedBy m n) (order (x .queue)) (w .proper .fit) (proper-tasks m (x .queue) (w .proper .jobs)) (released-right m (g .right) n) free in
+      let b = length-map (x .queue) (λ (j : M.Job). j .task) in
+      let c = lent-count t g s w in
+      omega arith
 
 -- ---- the start
 
@@ -321,11 +241,8 @@ zeros zero k = refl
 zeros (suc n) zero = ap (λ (l : List ℕ). 0 ∷ l) (zeros n 0)
 zeros (suc n) (suc k) = ap (λ (l : List ℕ). 0 ∷ l) (zeros n k)
 
-pub start-held : (m : Model) (js : List Job) (n : ℕ) → js ≡ cellsOf (putAll m (releases (locationAt m 1)) []) → n ≡ length (putAll m (releases (locationAt m 1)) [])
+pub start-held : (m : Model) (js : List Job) (n : ℕ) → js ≡ cellsOf (putAll m (releasedAtStart m) []) → n ≡ length (putAll m (releasedAtStart m) [])
     → record { location = 1; clocks = replicate 4 0; jobs = js; count = n } ≡ held (start m)
 start-held m js n e f =
     ap₂ (λ (x : List Job) (k : ℕ). record { location = 1; clocks = replicate 4 0; jobs = x; count = k }) e f
-    ∙ ap₂ (λ (cs ts : List ℕ). record { location = 1; clocks = cs; jobs = cellsOf (putAll m ts []); count = length (putAll m ts []) }) (sym (zeros 4 (m .clocks))) (sym (releasedAtStart-is m))
-
-pub start-free : (m : Model) → overflowsAny m (releases (locationAt m 1)) [] ≡ false
-start-free m = ap (λ (ts : List ℕ). overflowsAny m ts []) (sym (releasedAtStart-is m)) ∙ start-fits m
+    ∙ ap (λ (cs : List ℕ). record { location = 1; clocks = cs; jobs = cellsOf (putAll m (releasedAtStart m) []); count = length (putAll m (releasedAtStart m) []) }) (sym (zeros 4 (m .clocks)))

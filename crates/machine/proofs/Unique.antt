@@ -1,28 +1,27 @@
 -- Any two replies that the machine's contracts allow coincide.
 -- Assumes nothing.
-use Prim.Native.Nat.{ℕ, zero, suc, _≤_, _<_}
-use mathlib.Core.Path.{_≡_, refl, sym, _∙_, ap, ap₂, subst}
-use mathlib.Core.Bool.{Bool, true, false, true≢false}
-use mathlib.Core.List.{List, [], _∷_, map}
+use Prim.Native.Nat.{ℕ, _≤_}
+use mathlib.Core.Path.{_≡_, refl, sym, _∙_, ap}
+use mathlib.Core.Bool.{Bool, true, false}
+use mathlib.Core.List.{List, map}
 use native.Mathlib.Omega.{arith}
 use native.Mathlib.Decide.{ℕ-discrete, decLe}
-use lib.ListN.{length, getD}
+use lib.ListN.{length, take}
 use Rattle.meaning.specs.Lists.{sameList, every}
-use Rattle.meaning.specs.Model.{Model}
-use Rattle.meaning.specs.Machine.State as M
 use Rattle.meaning.specs.Machine.Step.{Event}
+use Rattle.meaning.specs.Zones.Proper.{fits}
 use Rattle.meaning.specs.Text.ModelReader.{Given, format, readModel}
 use Rattle.meaning.specs.Text.ModelTable.{size, decode, clocks, tasks, locations}
 use Rattle.meaning.specs.Text.Records.{Answer, done, refused, write}
 use Rattle.meaning.proofs.Lists.{sameList-eq, sameList-refl}
-use Rattle.meaning.proofs.Tests.{and-left, and-right, and-both, never}
+use Rattle.meaning.proofs.Tests.{never}
 use Rattle.meaning.proofs.Text.ModelTheorems.{given-iff}
 use Rattle.model_table.specs.Right.{RightTable}
 use Rattle.model_table.proofs.GivenLaws.{given-table}
 use Rattle.model_table.proofs.PartLaws.{tasks-is}
-use Rattle.machine.specs.Stands.{jobOf, noJob, Lendable}
+use Rattle.machine.specs.Stands.{jobOf, taskOf, Lendable}
 use Rattle.machine.specs.Promise as P
-use Rattle.machine.specs.Promise.{said, saidBy, placeSaid, Usable, Stepped, Started, Listed, Placing}
+use Rattle.machine.specs.Promise.{said, saidBy, placeSaid, UsableState, Stepped, Started, Listed, Placing}
 use Rattle.machine.specs.ByCell.{allTo, clockRight, timely, jobRight}
 use Rattle.machine.specs.declared.Job.{Job}
 use Rattle.machine.specs.declared.State.{State}
@@ -31,10 +30,8 @@ use Rattle.machine.specs.declared.Outcome.the-variants.{Went, Missed, Ov
 use Rattle.machine.specs.declared.Reply.{Reply}
 use Rattle.machine.specs.declared.Placed.{Placed}
 use Rattle.machine.specs.declared.Placed.the-variants as Alt
-use Rattle.machine.proofs.AllCells.{all-each, all-make}
-use Rattle.machine.proofs.LendLaws.{lendable-make, lent-high, lent-few, lent-long, lent-room, lent-clock-cells, lent-job-cells}
-use Rattle.machine.proofs.SeenLaws.{once, tasksOf, Rightly}
-use Rattle.machine.proofs.PlaceLaws.{listed-right, right-listed}
+use Rattle.machine.proofs.LendLaws.{lendable-make, lent-high, lent-few, lent-long, lent-room, lent-clock-cells, lent-job-cells, lent-fit}
+use Rattle.machine.proofs.PlaceLaws.{listed-timely, listed-fit, right-listed}
 
 -- ---- what a test tells
 
@@ -70,17 +67,19 @@ lendable-or-not t g s =
     one (yes a) (yes b) (yes c) (yes d) (no e) = no (λ w. e (lent-room t g s w))
     one (yes a) (yes b) (yes c) (yes d) (yes e) =
         by-test (allTo 4 (clockRight (s .clocks) (clocks t)))
-        (λ cs. by-test (allTo 6 (jobRight t (s .jobs) (s .count))) (λ js. yes (lendable-make t g s a b c d e cs js)) (λ js. no (λ w. never (lent-job-cells t g s w) js)))
+        (λ cs. by-test (allTo 6 (jobRight t (s .jobs) (s .count)))
+        (λ js. by-test (fits (decode t) (take (s .count) (map taskOf (s .jobs)))) (λ f. yes (lendable-make t g s a b c d e cs js f)) (λ f. no (λ w. never (lent-fit t g s w) f)))
+        (λ js. no (λ w. never (lent-job-cells t g s w) js)))
         (λ cs. no (λ w. never (lent-clock-cells t g s w) cs))
 
-usable-or-not : (t : List ℕ) (s : State) → Dec (Usable t s)
+usable-or-not : (t : List ℕ) (s : State) → Dec (UsableState t s)
 usable-or-not t s = go (given-or-not t)
   where
-    lent : (g : Given t) → Dec (Lendable (decode t) s) → Dec (Usable t s)
+    lent : (g : Given t) → Dec (Lendable (decode t) s) → Dec (UsableState t s)
     lent g (yes w) = yes (record { given = g; lendable = w })
     lent g (no h) = no (λ u. h (u .lendable))
 
-    go : Dec (Given t) → Dec (Usable t s)
+    go : Dec (Given t) → Dec (UsableState t s)
     go (yes g) = lent g (lendable-or-not t (given-table t g) s)
     go (no h) = no (λ u. h (u .given))
 
@@ -109,7 +108,7 @@ said-same (Refused n) (Refused k) s u e = let z : s ≡ u = cc in let y : n ≡ 
 pub stepped-once : (t : List ℕ) (s : State) (ev : Event) (r r′ : Reply) → Stepped t s ev r → Stepped t s ev r′ → r ≡ r′
 stepped-once t s ev r r′ a b = said-same (r .outcome) (r′ .outcome) (r .state) (r′ .state) (go (usable-or-not t s))
   where
-    go : Dec (Usable t s) → said r ≡ said r′
+    go : Dec (UsableState t s) → said r ≡ said r′
     go (yes u) = a .usable u ∙ sym (b .usable u)
     go (no h) = a .unusable h ∙ sym (b .unusable h)
 
@@ -124,29 +123,16 @@ started-once t r r′ a b = said-same (r .outcome) (r′ .outcome) (r .state) (r
 
 -- ---- place
 
-each-every : {A : Type 0} (f : A → Bool) (d : A) (l : List A) → every f l ≡ true → (k : ℕ) → k < length l → f (getD l k d) ≡ true
-each-every f d [] e k h = absurd (omega arith)
-each-every f d (x ∷ l) e zero h = and-left (f x) (every f l) e
-each-every f d (x ∷ l) e (suc k) h = each-every f d l (and-right (f x) (every f l) e) k (omega arith)
-
-every-each : {A : Type 0} (f : A → Bool) (d : A) (l : List A) → ((k : ℕ) → k < length l → f (getD l k d) ≡ true) → every f l ≡ true
-every-each f d [] h = refl
-every-each f d (x ∷ l) h = and-both (f x) (every f l) (h 0 (omega arith)) (every-each f d l (λ k b. h (suc k) (omega arith)))
-
-rightly-or-not : (t : List ℕ) (n : ℕ) (js : List Job) → Dec (Rightly t n js)
-rightly-or-not t n js =
-    by-test (every (timely t) js)
-    (λ a. by-test (once (tasksOf js)) (λ b. yes (record { timely = each-every (timely t) noJob js a; once = b })) (λ b. no (λ r. never (r .once) b)))
-    (λ a. no (λ r. never (every-each (timely t) noJob js (r .timely)) a))
-
 listed-or-not : (t : List ℕ) → RightTable t → (n : ℕ) (js : List Job) → Dec (Listed (decode t) n (map jobOf js))
-listed-or-not t g n js = go (decLe 1 n) (decLe n (tasks t)) (rightly-or-not t n js)
+listed-or-not t g n js = go (decLe 1 n) (decLe n (tasks t))
   where
-    go : Dec (1 ≤ n) → Dec (n ≤ tasks t) → Dec (Rightly t n js) → Dec (Listed (decode t) n (map jobOf js))
-    go (no a) b c = no (λ w. a (w .low))
-    go (yes a) (no b) c = no (λ w. b (let e = tasks-is t g in let h = w .high in omega arith))
-    go (yes a) (yes b) (no c) = no (λ w. c (listed-right t g n js w))
-    go (yes a) (yes b) (yes c) = yes (right-listed t g n js a b c)
+    go : Dec (1 ≤ n) → Dec (n ≤ tasks t) → Dec (Listed (decode t) n (map jobOf js))
+    go (no a) b = no (λ w. a (w .low))
+    go (yes a) (no b) = no (λ w. b (let e = tasks-is t g in let h = w .high in omega arith))
+    go (yes a) (yes b) =
+        by-test (every (timely t) js)
+        (λ e. by-test (fits (decode t) (map taskOf js)) (λ f. yes (right-listed t g n js a b e f)) (λ f. no (λ w. never (listed-fit t g n js w) f)))
+        (λ e. no (λ w. never (listed-timely t g n js w) e))
 
 place-same : (a b : Placed) → placeSaid a ≡ placeSaid b → a ≡ b
 place-same (Alt.At k) (Alt.At j) e = let z : k ≡ j = cc in rw z

@@ -1,12 +1,11 @@
 -- What the walk over a lent slice of jobs needs that belongs to no function.
 --     after        what stands after the first statement of a part: the rest of a turn has no name in a function's `Mir`
 --     scaled       the offset of an element that is there fits a word: the elements take at most isize::MAX bytes, and a `Job` takes 12
---     few          and so there are few of them
 --     slice ℓ      the MIR type of a `&[Job]` at the lifetime ℓ in a local
 --     tslice       and of a `&[u32]` at the first lifetime
 --     vals, tells  a job's machine values, and that its relation tells them
 -- Assumes nothing.
-use Prim.Native.Nat.{ℕ, _*_, _≤_, _<_, _^_}
+use Prim.Native.Nat.{ℕ, _*_, _<_, _^_}
 use native.Mathlib.Omega.{arith}
 use mathlib.Core.List.{List}
 use mir.Syntax.{Ty, Lifetime, Body, skip, seq, assign, block, loop, cond, switch, exit, return, call, named, imm, w32, tyInt, tyRef}
@@ -33,9 +32,6 @@ after (call f xs p) = skip
 
 pub scaled : (i m : ℕ) → i < m → m * 12 < 2 ^ 63 → i * 12 < 2 ^ 64
 scaled i m l g = omega arith
-
-pub few : (k m : ℕ) → k ≤ m → m * 12 < 2 ^ 63 → k < 1152921504606846976
-few k m l g = omega arith
 
 abbrev pub slice : Lifetime → Ty
 slice ℓ = sliceTy (tyRef ℓ imm (pointee (T.the-row .written)))

@@ -2,18 +2,16 @@
 -- Assumes nothing.
 use Prim.Native.Nat.{ℕ, zero, suc, _+_, _-_, _≤_}
 use mathlib.Core.Path.{_≡_}
-use mathlib.Core.Bool.{Bool, true, false, not, _&&_, _||_}
+use mathlib.Core.Bool.{Bool, true, false, _&&_, _||_}
 use mathlib.Core.List.{List}
 use lib.Dec.{ltb, leb, eqb}
-use lib.ListN.{length, getD, drop}
-use Rattle.meaning.specs.Lists.{elem}
-use Rattle.meaning.specs.Machine.State.{order}
+use lib.ListN.{length, getD}
 use Rattle.model_table.specs.Parts.{policyIn, workIn, deadlineIn, priorityIn}
 use Rattle.meaning.specs.Numbers.{within}
 use Rattle.meaning.specs.Text.Choice.{pick}
 use Rattle.meaning.specs.Text.ModelTable.{lowered}
 use Rattle.meaning.specs.Text.Ranges.{timeMost}
-use Rattle.machine.specs.Stands.{clockMost, noJob, queueOf}
+use Rattle.machine.specs.Stands.{clockMost, noJob}
 use Rattle.machine.specs.declared.Job.{Job}
 
 -- the test holds of each number below n
@@ -24,7 +22,7 @@ allTo (suc n) h = allTo n h && h n
 -- ---- clocks
 
 -- no clock is above the end
-pub record Small (cs : List ℕ) : Type 0 where
+pub record UpToEnd (cs : List ℕ) : Type 0 where
   pub each : (k : ℕ) → getD cs k 0 ≤ clockMost
 
 -- clock k after a tick, of n
@@ -103,12 +101,9 @@ timely t j = ltb (j .done) (workIn t (j .task)) && ltb (j .age) (deadlineIn t (j
 abbrev pub unused : Job → Bool
 unused j = eqb (j .task) 0 && (eqb (j .done) 0 && eqb (j .age) 0)
 
--- the job at place k of n is proper and its task does not stand behind it, and a cell behind the last job is unused
+-- the job at place k of n has work and time left, and a cell behind the last job is unused
 abbrev pub jobRight : List ℕ → List Job → ℕ → ℕ → Bool
-jobRight t js n k =
-    pick (ltb k n)
-    (timely t (getD js k noJob) && not (elem (getD js k noJob .task) (drop (k + 1) (order (queueOf js n)))))
-    (unused (getD js k noJob))
+jobRight t js n k = pick (ltb k n) (timely t (getD js k noJob)) (unused (getD js k noJob))
 
 -- what is said of six cells
 pub record QueueJudged (t : List ℕ) (js : List Job) (n : ℕ) (r : Bool) : Type 0 where

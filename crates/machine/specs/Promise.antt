@@ -70,14 +70,14 @@ answered m s ev =
     (refused notAllowed 0 s)
 
 -- the table is one that a text gives, and the state may be lent with it
-pub record Usable (t : List ℕ) (s : State) : Type 0 where
+pub record UsableState (t : List ℕ) (s : State) : Type 0 where
   pub given : Given t
   pub lendable : Lendable (decode t) s
 
 -- what a step promises: 13 before all else
 pub record Stepped (t : List ℕ) (s : State) (ev : Event) (r : Reply) : Type 0 where
-  pub unusable : (Usable t s → ⊥) → said r ≡ refused notProper 0 s
-  pub usable : Usable t s → said r ≡ answered (decode t) s ev
+  pub unusable : (UsableState t s → ⊥) → said r ≡ refused notProper 0 s
+  pub usable : UsableState t s → said r ≡ answered (decode t) s ev
 
 -- a state of nothing
 abbrev pub noState : State

@@ -22,6 +22,10 @@ jobOf j = record { task = j .task; done = j .done; age = j .age }
 abbrev pub cellOf : M.Job → Job
 cellOf j = record { task = j .task; done = j .done; age = j .age }
 
+-- the task of a `Job`
+abbrev pub taskOf : Job → ℕ
+taskOf j = j .task
+
 -- the queue of the first n cells, head first
 abbrev pub queueOf : List Job → ℕ → List M.Job
 queueOf js n = map jobOf (take n js)

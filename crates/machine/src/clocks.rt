@@ -6,14 +6,14 @@ ghost use lib.ListN.{length, getD, take};
 ghost use Rattle.meaning.specs.Lists.{every, nth1D};
 ghost use Rattle.meaning.specs.Machine.Tick.{limitTest};
 ghost use Rattle.meaning.specs.Machine.Edge.{boundTest, resetAll};
-ghost use Rattle.model_table.specs.Right.{RightTable};
 ghost use Rattle.model_table.specs.Parts.{limitIn, limitsOf, boundIn, guardOf, resetIn, resetsOf};
+ghost use Rattle.model_table.specs.Right.{RightTable};
 ghost use Rattle.machine.specs.Stands.{clockMost, padded};
-ghost use Rattle.machine.specs.ByCell.{limitMet, boundMet, grownCell, keptCell, Small};
+ghost use Rattle.machine.specs.ByCell.{limitMet, boundMet, grownCell, keptCell, UpToEnd};
 
 // Clock k after a tick; a clock that the model lacks stays 0.
 fn grown(clocks: [u32; 4], n: usize, k: usize) -> u32
-    requires { ⌜ (k < 4) × Small clocks ⌝ }
+    requires { ⌜ (k < 4) × UpToEnd clocks ⌝ }
     ensures { λ r. ⌜ r ≡ grownCell clocks n k ⌝ }
 {
     if k < n { clocks[k] + 1 } else { 0 }
@@ -21,7 +21,7 @@ fn grown(clocks: [u32; 4], n: usize, k: usize) -> u32
 
 // The clocks after a tick: each of the first n grows by 1.
 pub(crate) fn grow(clocks: [u32; 4], n: usize) -> [u32; 4]
-    requires { ⌜ (n ≤ 4) × Small clocks ⌝ }
+    requires { ⌜ (n ≤ 4) × UpToEnd clocks ⌝ }
     ensures { λ r. ⌜ r ≡ padded 0 4 (map suc (take n clocks)) ⌝ }
 {
     let mut r = [0; 4];
@@ -81,7 +81,7 @@ fn bound_met(model: &[u32], edge: u32, i: u32, j: u32, x: u32, y: u32) -> bool
 
 // Does the guard's bound number x, in the rows of 5, hold of the clocks?
 fn row_met(model: &[u32], edge: u32, clocks: [u32; 4], x: usize) -> bool
-    requires { ⌜ RightTable (now model) × (x < 25) × Small clocks ⌝ }
+    requires { ⌜ RightTable (now model) × (x < 25) × UpToEnd clocks ⌝ }
     ensures { λ r. ⌜ r ≡ boundMet (boundIn (now (model .entry)) edge (x / 5) (x % 5)) (nth1D clocks (x / 5) 0) (nth1D clocks (x % 5) 0) ⌝ }
 {
     let i = x / 5;
@@ -98,7 +98,7 @@ fn row_met(model: &[u32], edge: u32, clocks: [u32; 4], x: usize) -> bool
 
 // Does the guard of an edge hold of the clocks?
 pub(crate) fn guard_holds(model: &[u32], edge: u32, clocks: [u32; 4]) -> bool
-    requires { ⌜ RightTable (now model) × Small clocks ⌝ }
+    requires { ⌜ RightTable (now model) × UpToEnd clocks ⌝ }
     ensures { λ r. ⌜ r ≡ every (boundTest clocks) (guardOf (now (model .entry)) edge) ⌝ }
 {
     let mut x: usize = 0;

@@ -1,15 +1,15 @@
 // Which states may be lent: each clock, each job, each cell that is not used.
 ghost use mathlib.Core.Path.{_≡_};
-ghost use Prim.Native.Nat.{ℕ, suc, _+_, _-_, _≤_, _<_};
+ghost use Prim.Native.Nat.{_+_, _-_, _<_};
 ghost use Rattle.meaning.specs.Text.ModelReader.{Given};
 ghost use Rattle.meaning.specs.Text.ModelTable.{decode};
 ghost use Rattle.model_table.specs.Right.{RightTable};
 ghost use Rattle.machine.specs.Stands.{Lendable};
-ghost use Rattle.machine.specs.Promise.{Usable};
-ghost use Rattle.machine.specs.ByCell.{allTo, clockRight, ClocksJudged, timely, unused, jobRight, QueueJudged, Tells};
+ghost use Rattle.machine.specs.Promise.{UsableState};
+ghost use Rattle.machine.specs.ByCell.{clockRight, ClocksJudged, timely, unused, jobRight, QueueJudged, Tells};
 use super::Job;
 use super::State;
-use super::queue::is_queued;
+use super::queue::tasks_of;
 
 // Is clock k not above the end, or 0 where the model has no such clock?
 fn clock_right(clocks: [u32; 4], n: usize, k: usize) -> bool
@@ -59,27 +59,20 @@ fn is_unused(job: Job) -> bool
     false
 }
 
-// Is the job at place k proper, with its task not behind it, or the cell unused?
+// Has the job at place k work and time left, or is the cell unused?
 fn job_right(model: &[u32], jobs: [Job; 6], count: usize, k: usize) -> bool
-    requires { ⌜ (k < 6) × (count ≤ 6) ⌝ }
+    requires { ⌜ k < 6 ⌝ }
     ensures { λ r. ⌜ r ≡ jobRight (now (model .entry)) jobs count k ⌝ }
 {
     let job = jobs[k];
     if k < count {
-        if is_timely(model, job) {
-            if is_queued(job.task, jobs, k + 1, count) {
-                return false;
-            }
-            return true;
-        }
-        return false;
+        return is_timely(model, job);
     }
     is_unused(job)
 }
 
 // Are all cells of the queue so?
 fn queue_right(model: &[u32], jobs: [Job; 6], count: usize) -> bool
-    requires { ⌜ count ≤ 6 ⌝ }
     ensures { λ r. ⌜ QueueJudged (now (model .entry)) jobs count r ⌝ }
 {
     let mut k: usize = 0;
@@ -102,7 +95,7 @@ pub fn is_lendable(model: &[u32], state: State) -> bool
     if location == 0 {
         return false;
     }
-    if model_table::counts::locations(model) < location {
+    if model_table::locations(model) < location {
         return false;
     }
     let count = state.count;
@@ -112,7 +105,10 @@ pub fn is_lendable(model: &[u32], state: State) -> bool
     let clocks = state.clocks;
     if clocks_right(clocks, model_table::clocks(model) as usize) {
         let jobs = state.jobs;
-        return queue_right(model, jobs, count as usize);
+        if queue_right(model, jobs, count as usize) {
+            return home::fits(model, tasks_of(jobs), count as usize);
+        }
+        return false;
     }
     false
 }
@@ -121,12 +117,12 @@ pub fn is_lendable(model: &[u32], state: State) -> bool
 pub(crate) fn is_given(model: &[u32]) -> bool
     ensures { λ r. ⌜ Tells r (Given (now (model .entry))) ⌝ }
 {
-    model_text::writing::is_model(model)
+    model_text::is_model(model)
 }
 
 // May the state be lent with this table?
 pub(crate) fn is_usable(model: &[u32], state: State) -> bool
-    ensures { λ r. ⌜ Tells r (Usable (now (model .entry)) state) ⌝ }
+    ensures { λ r. ⌜ Tells r (UsableState (now (model .entry)) state) ⌝ }
 {
     if is_given(model) {
         return is_lendable(model, state);

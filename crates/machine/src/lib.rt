@@ -5,10 +5,14 @@ ghost use Rattle.meaning.specs.Machine.Step.{tick, edge};
 ghost use Rattle.machine.specs.Promise.{Stepped, Started, Placing};
 
 mod clocks;
-pub mod judge;
+mod judge;
 mod listed;
 mod queue;
-pub mod steps;
+mod stepping;
+
+pub use judge::is_lendable;
+pub use queue::tasks_of;
+pub use stepping::start_given;
 
 // A job: its task, the ticks of work done, and its age in ticks since release.
 pub struct Job {
@@ -16,6 +20,9 @@ pub struct Job {
     pub done: u32,
     pub age: u32,
 }
+
+// The jobs of a queue, head first; unused cells are 0.
+pub type Jobs = [Job; 6];
 
 // A state: a location, the clock values, and a queue, head first. Unused cells are 0.
 pub struct State {
@@ -39,7 +46,7 @@ pub struct Reply {
     pub state: State,
 }
 
-// The place of a new job in a lent list: its position; an overflow if its task stands there already; or a refusal's number.
+// The place of a new job in a lent list: its position; an overflow; or a refusal's number.
 pub enum Placed {
     At(usize),
     Overflowed,
@@ -51,9 +58,9 @@ pub fn start(model: &[u32]) -> Reply
     ensures { λ r. ⌜ Started (now (model .entry)) r ⌝ }
 {
     if judge::is_given(model) {
-        return steps::start_given(model);
+        return stepping::start_given(model);
     }
-    steps::refused(steps::no_state(), 13)
+    stepping::refused(stepping::no_state(), 13)
 }
 
 // One tick: refused by 13, then 12, then 14; else the state after it, and whether it is a miss.
@@ -61,9 +68,9 @@ pub fn tick(model: &[u32], state: State) -> Reply
     ensures { λ r. ⌜ Stepped (now (model .entry)) state tick r ⌝ }
 {
     if judge::is_usable(model, state) {
-        return steps::tick_given(model, state);
+        return stepping::tick_given(model, state);
     }
-    steps::refused(state, 13)
+    stepping::refused(state, 13)
 }
 
 // One edge by its number in the file: refused by 13, then 12; else the state after it, or an overflow.
@@ -71,9 +78,9 @@ pub fn edge(model: &[u32], state: State, number: u32) -> Reply
     ensures { λ r. ⌜ Stepped (now (model .entry)) state (edge number) r ⌝ }
 {
     if judge::is_usable(model, state) {
-        return steps::edge_given(model, state, number);
+        return stepping::edge_given(model, state, number);
     }
-    steps::refused(state, 13)
+    stepping::refused(state, 13)
 }
 
 // The place of a new job of a task in a lent list of jobs, one after the other: the walk.

@@ -1,8 +1,12 @@
 // The place of a new job in a lent list of jobs: what is asked of each job, and the answer. All but the walk over the list.
 ghost use mathlib.Core.Path.{_≡_};
-ghost use mathlib.Core.Bool.{_||_};
-ghost use Prim.Native.Nat.{ℕ, suc, _+_, _-_, _≤_, _<_};
-ghost use Rattle.machine.specs.ByPlace.{startSeen, badSeen, takenSeen, lookOf, Ended, Known, positionSaid, Finished};
+ghost use mathlib.Core.Bool.{Bool};
+ghost use Prim.Native.Nat.{_+_, _-_, _≤_, _<_};
+ghost use lib.ListN.{take};
+ghost use Rattle.meaning.specs.Machine.Place.{placeFrom};
+ghost use Rattle.meaning.specs.Text.ModelTable.{decode};
+ghost use Rattle.model_table.specs.Right.{RightTable};
+ghost use Rattle.machine.specs.ByPlace.{startSeen, badSeen, nextSeen, lookOf, Ended, Known, positionSaid, Finished};
 ghost use Rattle.machine.specs.ByCell.{Tells};
 ghost use Rattle.machine.specs.Promise.{placeSaid};
 use super::Job;
@@ -10,28 +14,26 @@ use super::Placed;
 use super::judge::is_given;
 use super::judge::is_timely;
 use super::queue::beats;
+use home::Releases;
+use home::Tasks;
 
-// What a walk over the jobs has found up to a place: whether all is right so far; whether a job is beaten, and the first such place; whether the new
-// job's task stands there; and which tasks do.
+// What a walk over the jobs has found up to a place: whether all is right so far, the jobs' tasks, and which jobs are beaten.
 pub struct Seen {
     pub good: bool,
-    pub found: bool,
-    pub place: usize,
-    pub queued: bool,
-    pub marks: [bool; 6],
+    pub tasks: Tasks,
+    pub beaten: [bool; 6],
 }
 
 // Nothing is seen yet.
 pub(crate) fn begin() -> Seen
     ensures { λ r. ⌜ r ≡ startSeen ⌝ }
 {
-    let marks = [false; 6];
+    let tasks = [0u32; 6];
+    let beaten = [false; 6];
     Seen {
         good: true,
-        found: false,
-        place: 0,
-        queued: false,
-        marks,
+        tasks,
+        beaten,
     }
 }
 
@@ -39,63 +41,41 @@ pub(crate) fn begin() -> Seen
 fn bad() -> Seen
     ensures { λ r. ⌜ r ≡ badSeen ⌝ }
 {
-    let marks = [false; 6];
+    let tasks = [0u32; 6];
+    let beaten = [false; 6];
     Seen {
         good: false,
-        found: false,
-        place: 0,
-        queued: false,
-        marks,
+        tasks,
+        beaten,
     }
 }
 
-fn either(a: bool, b: bool) -> bool
-    ensures { λ r. ⌜ r ≡ (a || b) ⌝ }
-{
-    if a {
-        return true;
-    }
-    b
-}
-
-// A job that has work and time left is taken in, with k ahead, unless its task is there already: the first that is beaten counts.
+// A job that has work and time left is taken in, with k ahead.
 fn take_in(model: &[u32], task: u32, k: usize, s: Seen, job: Job) -> Seen
-    requires { ⌜ (1 ≤ job .task) × (job .task ≤ 6) ⌝ }
-    ensures { λ r. ⌜ r ≡ takenSeen (now (model .entry)) task k s job ⌝ }
+    requires { ⌜ k < 6 ⌝ }
+    ensures { λ r. ⌜ r ≡ nextSeen (now (model .entry)) task k s job ⌝ }
 {
-    let i = (job.task - 1) as usize;
-    let mut marks = s.marks;
-    if marks[i] {
-        return bad();
-    }
-    marks[i] = true;
-    let queued = either(s.queued, job.task == task);
-    if s.found {
-        return Seen {
-            good: true,
-            found: true,
-            place: s.place,
-            queued,
-            marks,
-        };
-    }
-    let found = beats(model, task, job);
+    let mut tasks = s.tasks;
+    tasks[k] = job.task;
+    let mut beaten = s.beaten;
+    beaten[k] = beats(model, task, job);
     Seen {
         good: true,
-        found,
-        place: k,
-        queued,
-        marks,
+        tasks,
+        beaten,
     }
 }
 
-// The work at one job, which has k ahead.
+// The work at one job, which has k ahead: no queue that fits has more than six.
 pub(crate) fn look(model: &[u32], task: u32, k: usize, s: Seen, job: Job) -> Seen
     ensures { λ r. ⌜ r ≡ lookOf (now (model .entry)) task k s job ⌝ }
 {
     if s.good {
-        if is_timely(model, job) {
-            return take_in(model, task, k, s, job);
+        if k < 6 {
+            if is_timely(model, job) {
+                return take_in(model, task, k, s, job);
+            }
+            return bad();
         }
         return bad();
     }
@@ -109,24 +89,43 @@ fn is_known(model: &[u32], task: u32) -> bool
     if task == 0 {
         return false;
     }
-    if model_table::counts::tasks(model) < task {
+    if model_table::tasks(model) < task {
         return false;
     }
     is_given(model)
 }
 
-// Overflow, or the position, of what a walk over all k jobs of a right list has found.
-fn position(k: usize, s: Seen) -> Placed
-    requires { ⌜ Ended k s ⌝ }
-    ensures { λ r. ⌜ placeSaid r ≡ positionSaid k s ⌝ }
+// How many of the jobs stay ahead: from a place on those that are not beaten.
+fn ahead(beaten: [bool; 6], from: usize, count: usize) -> usize
+    requires { ⌜ (from ≤ count) × (count ≤ 6) ⌝ }
+    ensures { λ r. ⌜ (r ≡ placeFrom from (λ (b : Bool). b) (take count beaten)) × (r ≤ count) ⌝ }
 {
-    if s.queued {
+    let mut k = from;
+    while k < count {
+        if beaten[k] {
+            return k;
+        }
+        k += 1;
+    }
+    k
+}
+
+// Overflow, or the position, of what a walk over all k jobs of a right list has found.
+fn position(model: &[u32], task: u32, k: usize, s: Seen) -> Placed
+    requires { ⌜ RightTable (now model) × (k ≤ 6) ⌝ }
+    ensures { λ r. ⌜ placeSaid r ≡ positionSaid (decode (now (model .entry))) task k s ⌝ }
+{
+    let tasks = s.tasks;
+    let new = Releases {
+        tasks: [task, 0, 0, 0],
+        count: 1,
+    };
+    if home::overflows(model, new, tasks, k) {
         return Placed::Overflowed;
     }
-    if s.found {
-        return Placed::At(s.place + 1);
-    }
-    Placed::At(k + 1)
+    let beaten = s.beaten;
+    let from = home::first_place(model, task, tasks, k);
+    Placed::At(ahead(beaten, from, k) + 1)
 }
 
 // The answer, of what a walk over all k jobs has found.
@@ -136,7 +135,11 @@ pub(crate) fn finish(model: &[u32], task: u32, k: usize, s: Seen) -> Placed
 {
     if is_known(model, task) {
         if s.good {
-            return position(k, s);
+            let tasks = s.tasks;
+            if home::fits(model, tasks, k) {
+                return position(model, task, k, s);
+            }
+            return Placed::Refused(13);
         }
         return Placed::Refused(13);
     }

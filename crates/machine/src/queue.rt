@@ -1,18 +1,20 @@
 // The queue of a state: work and ages, the head that finishes, the first job that is late, and releases.
 ghost use mathlib.Core.Path.{_≡_};
-ghost use mathlib.Core.Bool.{Bool};
-ghost use Prim.Native.Nat.{ℕ, suc, _+_, _-_, _≤_, _<_};
-ghost use lib.ListN.{length, getD, drop};
-ghost use Rattle.meaning.specs.Lists.{elem, insertAt};
-ghost use Rattle.meaning.specs.Machine.State.{order};
+ghost use mathlib.Core.List.{map};
+ghost use Prim.Native.Nat.{_+_, _-_, _≤_, _<_};
+ghost use Rattle.meaning.specs.Lists.{insertAt};
 ghost use Rattle.meaning.specs.Machine.Tick.{finishes, served, isLate, late};
 ghost use Rattle.meaning.specs.Machine.Place.{placeOf};
-ghost use Rattle.meaning.specs.Text.ModelTable.{decode};
+ghost use Rattle.meaning.specs.Machine.Release.{put, putAll};
 ghost use Rattle.model_table.specs.Right.{RightTable};
-ghost use Rattle.machine.specs.Stands.{jobOf, queueOf, cellsOf};
+ghost use Rattle.meaning.specs.Text.ModelTable.{decode};
+ghost use Rattle.home.specs.Stands.{tasksOf};
+ghost use Rattle.machine.specs.Stands.{jobOf, taskOf, queueOf, cellsOf};
 ghost use Rattle.machine.specs.ByCell.{soonerIn, shorterIn, beatsIn, Young, agedCell, afterCell, insertCell, leftOf};
-ghost use Rattle.machine.specs.ByQueue.{releasedBy};
 use super::Job;
+use super::Jobs;
+use home::Releases;
+use home::Tasks;
 
 // The job at a place one tick older, with work done or not; behind the last job nothing.
 fn aged(jobs: [Job; 6], count: usize, from: usize, works: bool) -> Job
@@ -162,12 +164,26 @@ pub(crate) fn beats(model: &[u32], task: u32, job: Job) -> bool
     is_shorter(model, task, job)
 }
 
-// How many jobs of the queue stay ahead of a new job of a task: it goes in front of the first that it beats, else last.
-pub(crate) fn place_among(model: &[u32], task: u32, jobs: [Job; 6], count: usize) -> usize
-    requires { ⌜ RightTable (now model) × (count ≤ 6) × Young jobs ⌝ }
+// The tasks of the jobs.
+pub fn tasks_of(jobs: Jobs) -> Tasks
+    ensures { λ r. ⌜ r ≡ map taskOf jobs ⌝ }
+{
+    let mut r = [0u32; 6];
+    let mut k: usize = 0;
+    while k < 6 {
+        let job = jobs[k];
+        r[k] = job.task;
+        k += 1;
+    }
+    r
+}
+
+// How many jobs of the queue stay ahead of a new job of a task: from its first place on it goes in front of the first that it beats, else last.
+fn place_among(model: &[u32], task: u32, jobs: [Job; 6], count: usize) -> usize
+    requires { ⌜ RightTable (now model) × (count ≤ 6) ⌝ }
     ensures { λ r. ⌜ r ≡ placeOf (decode (now (model .entry))) task (queueOf jobs count) ⌝ }
 {
-    let mut k: usize = 0;
+    let mut k = home::first_place(model, task, tasks_of(jobs), count);
     while k < count {
         if beats(model, task, jobs[k]) {
             return k;
@@ -216,51 +232,13 @@ fn insert(jobs: [Job; 6], count: usize, at: usize, job: Job) -> [Job; 6]
     r
 }
 
-// Stands a job of the task at this place of the queue or behind it?
-pub(crate) fn is_queued(task: u32, jobs: [Job; 6], from: usize, count: usize) -> bool
-    requires { ⌜ (count ≤ 6) × (from ≤ count) ⌝ }
-    ensures { λ r. ⌜ r ≡ elem task (drop from (order (queueOf jobs count))) ⌝ }
+// The queue with a new job of a task at its place.
+fn put(model: &[u32], jobs: [Job; 6], count: usize, task: u32) -> [Job; 6]
+    requires { ⌜ RightTable (now model) × (count ≤ 6) ⌝ }
+    ensures { λ r. ⌜ r ≡ cellsOf (put (decode (now (model .entry))) task (queueOf jobs count)) ⌝ }
 {
-    let mut k = from;
-    while k < count {
-        let job = jobs[k];
-        if job.task == task {
-            return true;
-        }
-        k += 1;
-    }
-    false
-}
-
-// A queue into which tasks are released, one after the other.
-pub struct Queue {
-    pub jobs: [Job; 6],
-    pub count: usize,
-    pub overflowed: bool,
-}
-
-// One task is released, 0 for none; nothing more after an overflow.
-pub(crate) fn release(model: &[u32], queue: Queue, task: u32) -> Queue
-    requires { ⌜ RightTable (now model) × (queue .count ≤ 6) × Young (queue .jobs) ⌝ }
-    ensures { λ r. ⌜ r ≡ releasedBy (decode (now (model .entry))) task queue ⌝ }
-{
-    if task == 0 {
-        return queue;
-    }
-    if queue.overflowed {
-        return queue;
-    }
-    let jobs = queue.jobs;
-    let count = queue.count;
-    if is_queued(task, jobs, 0, count) {
-        return Queue {
-            jobs,
-            count,
-            overflowed: true,
-        };
-    }
     let at = place_among(model, task, jobs, count);
-    let next = insert(
+    insert(
         jobs,
         count,
         at,
@@ -269,10 +247,23 @@ pub(crate) fn release(model: &[u32], queue: Queue, task: u32) -> Queue
             done: 0,
             age: 0,
         },
-    );
-    Queue {
-        jobs: next,
-        count: count + 1,
-        overflowed: false,
+    )
+}
+
+// The queue with a new job of each task that is released, one after the other.
+pub(crate) fn put_all(model: &[u32], releases: Releases, jobs: [Job; 6], count: usize) -> [Job; 6]
+    requires { ⌜ RightTable (now model) ⌝ }
+    requires { ⌜ (releases .count ≤ 4) × (count + releases .count ≤ 6) × (jobs ≡ cellsOf (queueOf jobs count)) ⌝ }
+    ensures { λ r. ⌜ r ≡ cellsOf (putAll (decode (now (model .entry))) (tasksOf releases) (queueOf jobs count)) ⌝ }
+{
+    let new = releases.tasks;
+    let n = releases.count as usize;
+    let mut r = jobs;
+    let mut k: usize = 0;
+    while k < n {
+        let next = put(model, r, count + k, new[k]);
+        r = next;
+        k += 1;
     }
+    r
 }

@@ -1,5 +1,5 @@
-pub mod Rules
 pub mod Bounds
+pub mod Tests
 pub mod Valuations
 pub mod Releases
 pub mod StepBounds

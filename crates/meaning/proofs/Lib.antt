@@ -5,6 +5,7 @@ pub mod Numbers
 pub mod Hooks
 pub mod Machine
 pub mod Zones
+pub mod Releases
 pub mod Check
 pub mod Exact
 pub mod Text

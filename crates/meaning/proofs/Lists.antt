@@ -2,18 +2,19 @@
 -- Assumes nothing.
 use mathlib.Core.Path.{_≡_, refl, sym, _∙_, ap, ap₂, subst}
 use mathlib.Core.Logic.{_⊎_, inl, inr, ⊎-elim}
-use mathlib.Core.Bool.{Bool, true, false, not, cond, _&&_, _||_, true≢false}
+use mathlib.Core.Bool.{Bool, true, false, cond, _||_, true≢false}
 use mathlib.Core.List.{List, [], _∷_, _++_, map, List·Memᴰ, List·Memᴰ·head, List·Memᴰ·tail, List·Memᴰ·cases-cons, Memᴰ·append-left, Memᴰ·append-right}
-use mathlib.Core.Option.{Option, none, some}
-use Prim.Native.Nat.{ℕ, zero, suc, _+_, _-_, _≤_, _<_}
+use mathlib.Core.Option.{some}
+use Prim.Native.Nat.{ℕ, zero, suc, _+_, _≤_, _<_}
 use native.Mathlib.Omega.{arith}
 use native.Mathlib.Decide.{ℕ-discrete}
-use lib.Dec.{eqb, eqb-refl}
+use lib.Dec.{eqb, ltb}
 use lib.ListN.{length, getElem?, getD, List·getD-append}
 use lib.Seq.{getD-append-add}
-use borrow.Author.Tests.{eqb-true, eq-eqb}
-use Rattle.meaning.specs.Lists.{every, elem, sameList, insertAt, next, first, upTo, flat}
-use Rattle.meaning.proofs.Tests.{and-left, and-right, and-both, or-left, or-right}
+use borrow.Author.Tests.{eqb-true, eq-eqb, lt-ltb}
+use Rattle.meaning.specs.Lists.{every, elem, count, sameList, insertAt, next, first, upTo, flat}
+use Rattle.meaning.specs.Inner.Words.{tabFrom}
+use Rattle.meaning.proofs.Tests.{and-left, and-right, and-both}
 
 -- ── membership ─────────────────────────────────────────────────────────────────────────────────
 
@@ -141,14 +142,101 @@ elem-insertAt u (suc k) t (x ∷ o) = ap (λ (b : Bool). eqb u x || b) (elem-ins
     swap false true c = refl
     swap false false c = refl
 
+-- ── how many ───────────────────────────────────────────────────────────────────────────────────
+
+module _ {A : Type 0} where
+  pub count-yes : (f : A → Bool) (x : A) (l : List A) → f x ≡ true → count f (x ∷ l) ≡ suc (count f l)
+  count-yes f x l e = rw e refl
+
+  pub count-no : (f : A → Bool) (x : A) (l : List A) → f x ≡ false → count f (x ∷ l) ≡ count f l
+  count-no f x l e = rw e refl
+
+  pub count-more : (f : A → Bool) (x : A) (l : List A) → count f l ≤ count f (x ∷ l)
+  count-more f x l = go (f x)
+    where
+      go : (b : Bool) → count f l ≤ cond b (suc (count f l)) (count f l)
+      go true = omega arith
+      go false = omega arith
+
+  -- it does not look at the order
+  pub count-insertAt : (f : A → Bool) (k : ℕ) (x : A) (l : List A) → count f (insertAt k x l) ≡ count f (x ∷ l)
+  count-insertAt f zero x l = refl
+  count-insertAt f (suc k) x [] = refl
+  count-insertAt f (suc k) x (y ∷ l) = ap (λ (n : ℕ). cond (f y) (suc n) n) (count-insertAt f k x l) ∙ swap (f y) (f x) (count f l)
+    where
+      swap : (a b : Bool) (n : ℕ) → cond a (suc (cond b (suc n) n)) (cond b (suc n) n) ≡ cond b (suc (cond a (suc n) n)) (cond a (suc n) n)
+      swap true true n = refl
+      swap true false n = refl
+      swap false true n = refl
+      swap false false n = refl
+
+  pub length-insertAt : (k : ℕ) (x : A) (l : List A) → length (insertAt k x l) ≡ suc (length l)
+  length-insertAt zero x l = refl
+  length-insertAt (suc k) x [] = refl
+  length-insertAt (suc k) x (y ∷ l) = ap suc (length-insertAt k x l)
+
+  -- one that the test holds of is counted, and what is counted is there
+  pub mem-count : (f : A → Bool) {a : A} {l : List A} → List·Memᴰ a l → f a ≡ true → 1 ≤ count f l
+  mem-count f (List·Memᴰ·head {x = x} {xs = l} e) h = let r = count-yes f x l (sym (ap f e) ∙ h) in omega arith
+  mem-count f (List·Memᴰ·tail {x = x} {xs = l} w) h = let r = mem-count f w h in let n = count-more f x l in omega arith
+
+  pub count-mem : (f : A → Bool) (l : List A) → 1 ≤ count f l → (a : A) × List·Memᴰ a l × (f a ≡ true)
+  count-mem f [] h = absurd (omega arith)
+  count-mem f (x ∷ l) h = go (f x) refl h (count-mem f l)
+    where
+      go : (b : Bool) → f x ≡ b → 1 ≤ cond b (suc (count f l)) (count f l) → (1 ≤ count f l → (a : A) × List·Memᴰ a l × (f a ≡ true))
+          → (a : A) × List·Memᴰ a (x ∷ l) × (f a ≡ true)
+      go true e g ih = (x, List·Memᴰ·head refl, e)
+      go false e g ih = let r = ih g in (r .0, List·Memᴰ·tail (r .1), r .2)
+
+-- a number that stands in a list is one of its elements
+pub elem-mem : (t : ℕ) (o : List ℕ) → elem t o ≡ true → List·Memᴰ t o
+elem-mem t [] h = absurd (true≢false (sym h))
+elem-mem t (x ∷ o) h = go (eqb t x) refl h (elem-mem t o)
+  where
+    go : (b : Bool) → eqb t x ≡ b → (b || elem t o) ≡ true → (elem t o ≡ true → List·Memᴰ t o) → List·Memᴰ t (x ∷ o)
+    go true e g ih = List·Memᴰ·head (eqb-true t x e)
+    go false e g ih = List·Memᴰ·tail (ih g)
+
+pub mem-elem : (t : ℕ) (o : List ℕ) → List·Memᴰ t o → elem t o ≡ true
+mem-elem t (x ∷ o) (List·Memᴰ·head e) = ap (λ (b : Bool). b || elem t o) (eq-eqb t x e)
+mem-elem t (x ∷ o) (List·Memᴰ·tail h) = ap (λ (b : Bool). eqb t x || b) (mem-elem t o h) ∙ or-true (eqb t x)
+  where
+    or-true : (b : Bool) → (b || true) ≡ true
+    or-true true = refl
+    or-true false = refl
+
+-- a number stands in a list exactly if it is counted there
+pub elem-count : (t : ℕ) (o : List ℕ) → elem t o ≡ ltb 0 (count (eqb t) o)
+elem-count t [] = refl
+elem-count t (x ∷ o) = go (eqb t x) (elem-count t o)
+  where
+    go : (b : Bool) → elem t o ≡ ltb 0 (count (eqb t) o) → (b || elem t o) ≡ ltb 0 (cond b (suc (count (eqb t) o)) (count (eqb t) o))
+    go true e = sym (lt-ltb 0 (suc (count (eqb t) o)) (omega arith))
+    go false e = e
+
+-- ── at its place ───────────────────────────────────────────────────────────────────────────────
+
+module _ {A : Type 0} where
+  -- behind another list
+  pub append-back : (l r : List A) (k : ℕ) → getElem? (l ++ r) (length l + k) ≡ getElem? r k
+  append-back [] r k = let e : 0 + k ≡ k = omega arith in ap (getElem? r) e
+  append-back (x ∷ l) r k = let e : suc (length l) + k ≡ suc (length l + k) = omega arith in ap (getElem? (x ∷ l ++ r)) e ∙ append-back l r k
+
+  -- in front of another list
+  pub append-front : (l r : List A) (k : ℕ) (a : A) → getElem? l k ≡ some a → getElem? (l ++ r) k ≡ some a
+  append-front [] r k a e = absurd (let z : _≡_ {A = ℕ} 0 1 = cc in omega arith)
+  append-front (x ∷ l) r zero a e = e
+  append-front (x ∷ l) r (suc k) a e = append-front l r k a e
+
+pub map-at : {A B : Type 0} (f : A → B) (l : List A) (k : ℕ) (a : A) → getElem? l k ≡ some a → getElem? (map f l) k ≡ some (f a)
+map-at f [] k a e = absurd (let z : _≡_ {A = ℕ} 0 1 = cc in omega arith)
+map-at f (x ∷ l) zero a e = let q : x ≡ a = cc in ap (λ y. some (f y)) q
+map-at f (x ∷ l) (suc k) a e = map-at f l k a e
+
 -- ── a list made from a table ───────────────────────────────────────────────────────────────────
 
 module _ {A : Type 0} where
-  -- f k, f (k + 1), .., n of them
-  abbrev pub tabFrom : ℕ → (ℕ → A) → ℕ → List A
-  tabFrom k f zero = []
-  tabFrom k f (suc n) = f k ∷ tabFrom (suc k) f n
-
   pub length-tab : (k : ℕ) (f : ℕ → A) (n : ℕ) → length (tabFrom k f n) ≡ n
   length-tab k f zero = refl
   length-tab k f (suc n) = ap suc (length-tab (suc k) f n)

@@ -9,6 +9,7 @@ use lib.IntN.{ℤ, pos, negsuc, subℕ, negℤ, _+ℤ_, _-ℤ_}
 use lib.Signed.{leZ}
 use borrow.Author.Tests.{leb-true, leb-false, ltb-true, ltb-false, le-leb, lt-leb}
 use Rattle.meaning.specs.Numbers.{over, under, within}
+use Rattle.meaning.specs.Inner.Words.{shift}
 use Rattle.meaning.proofs.Tests.{leb-same}
 
 -- the difference of two naturals
@@ -89,10 +90,6 @@ within-false x y c e = leb-false (x + under c) (y + over c) e
 
 pub within-break : (x y : ℕ) (c : ℤ) → y + over c < x + under c → within x y c ≡ false
 within-break x y c h = lt-leb (x + under c) (y + over c) h
-
--- c + a − b
-abbrev pub shift : ℤ → ℤ → ℤ → ℤ
-shift c a b = c +ℤ (a -ℤ b)
 
 pub shift-parts : (c a b : ℤ) → over (shift c a b) + under c + under a + over b ≡ over c + over a + under b + under (shift c a b)
 shift-parts c a b = omega (arith, sum-parts c (a -ℤ b), sum-parts a (negℤ b), over-neg b, under-neg b)

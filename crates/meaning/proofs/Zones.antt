@@ -4,4 +4,5 @@ pub mod Home
 pub mod Listed
 pub mod OnePlace
 pub mod Given
+pub mod Choices
 pub mod Counting

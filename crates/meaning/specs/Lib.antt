@@ -6,4 +6,5 @@ pub mod Zones
 pub mod Check
 pub mod Text
 pub mod Published
+pub mod Inner
 pub mod ConsoleChecks

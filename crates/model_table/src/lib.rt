@@ -5,14 +5,17 @@ ghost use lib.ListN.{getD, length};
 ghost use Rattle.meaning.specs.Text.ModelTable.{clocks, tasks, locations, edges, lowered, count};
 ghost use Rattle.model_table.specs.Parts.{ofTask, ofLocation, ofEdge, policyIn, workIn, deadlineIn, priorityIn, releasedIn, limitIn, fromIn, toIn, boundIn, resetIn};
 
-pub mod cells;
-pub mod counts;
+mod cells;
+mod counts;
 
-use cells::cell;
-use cells::less_one;
+pub use cells::cell;
+pub use cells::less_one;
 use cells::of_edge;
 use cells::of_location;
 use cells::of_task;
+pub use counts::edges;
+pub use counts::locations;
+pub use counts::tasks;
 
 // The policy's number: 1 FPS, 2 EDF, 3 SJF.
 pub fn policy(model: &[u32]) -> u32

@@ -10,15 +10,15 @@ use Rattle.meaning.specs.Text.Refusals.{notProper, wrongRoom}
 use Rattle.meaning.specs.Text.ModelTable.{size}
 use Rattle.meaning.specs.Text.Records.{Seen, rec, end, fault, Answer, done, refused, write}
 use Rattle.meaning.specs.Text.ModelReader.{format, readModel, left, Given}
-use Rattle.model_text.specs.declared.records.Step.{Step}
-use Rattle.model_text.specs.declared.records.Step.the-variants.{Next, End, Fault}
+use Rattle.model_text.specs.declared.records.Taken.{Taken}
+use Rattle.model_text.specs.declared.records.Taken.the-variants.{Next, End, Fault}
 use Rattle.model_text.specs.declared.reading.Read.{Read}
 use Rattle.model_text.specs.declared.reading.Read.the-variants.{Done, Refused}
 use Rattle.model_text.specs.declared.writing.Written.{Written}
 use Rattle.model_text.specs.declared.writing.Written.the-variants as writer
 
 -- what is seen at a place, the answer r, and the table before and after it
-abbrev pub Stepped : Seen (List ℕ) → Step → List ℕ → List ℕ → Type 0
+abbrev pub Stepped : Seen (List ℕ) → Taken → List ℕ → List ℕ → Type 0
 Stepped (rec j v next) r t t′ = (r ≡ Next next (suc j)) × (t′ ≡ sets t j v)
 Stepped end r t t′ = (r ≡ End) × (t′ ≡ t)
 Stepped (fault k p) r t t′ = (r ≡ Fault k p) × (t′ ≡ t)
@@ -40,7 +40,7 @@ written (writer.Refused k p) = refused k p
 
 -- "tables that no text within 1 gives": 13; then "lent text buffer too short to write into": 11; a refusal leaves the buffer b as it was, and so are
 -- the bytes behind the text. The table t, the buffer before and after, and the answer r.
-pub record Wrote (t b : List ℕ) (r : Written) (b′ : List ℕ) : Type 0 where
+pub record WroteModel (t b : List ℕ) (r : Written) (b′ : List ℕ) : Type 0 where
   pub none : (Given t → ⊥) → (written r ≡ refused notProper 0) × (b′ ≡ b)
   pub short : (s : List ℕ) → readModel size s ≡ done t → length b < length s → (written r ≡ refused wrongRoom 0) × (b′ ≡ b)
   pub text : (s : List ℕ) → readModel size s ≡ done t → length s ≤ length b → (written r ≡ done (length s)) × (b′ ≡ sets b 0 s)

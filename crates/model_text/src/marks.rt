@@ -5,7 +5,6 @@ ghost use Prim.Native.Nat.{ℕ, _+_, _*_, _<_, _≤_};
 ghost use lib.ListN.{length, getD};
 ghost use Rattle.meaning.specs.Text.ModelReader.{markOf};
 ghost use Rattle.model_text.specs.Numbered.{markNo};
-use lines::places;
 
 // The mark whose two bytes are the two digits of k to the base 256.
 fn mark_of(k: u32) -> u32
@@ -30,7 +29,7 @@ pub(crate) fn mark(s: &[u8], at: usize) -> u32
     requires { ⌜ at ≤ length (now s) ⌝ }
     ensures { λ r. ⌜ markNo r ≡ markOf (getD (now (s .entry)) at 0) (getD (now (s .entry)) (at + 1) 0) ⌝ }
 {
-    let a = places::byte_at(s, at);
-    let b = places::byte_at(s, at + 1);
+    let a = lines::byte_at(s, at);
+    let b = lines::byte_at(s, at + 1);
     mark_of((a as u32) * 256 + (b as u32))
 }

@@ -9,9 +9,8 @@ ghost use Rattle.meaning.specs.Text.ModelTable.{size};
 ghost use Rattle.meaning.specs.Text.ModelReader.{format, readModel, left};
 ghost use Rattle.model_text.specs.Meant.{Answered};
 use crate::records;
-use crate::records::Step;
+use crate::records::Taken;
 use crate::tables;
-use lines::stops;
 
 // What a reader answers: done, with what it has read in the lent table; or a refusal number and its place.
 pub enum Read {
@@ -42,14 +41,14 @@ fn read_records(s: &[u8], t: &mut [u32]) -> Read
     let mut i: usize = 0;
     loop {
         match records::take(s, at, i, t) {
-            Step::Next { at: next, cursor } => {
+            Taken::Next { at: next, cursor } => {
                 at = next;
                 i = cursor;
             }
-            Step::End => {
+            Taken::End => {
                 return Read::Done;
             }
-            Step::Fault(k, p) => {
+            Taken::Fault(k, p) => {
                 clear(t);
                 return Read::Refused(k, p);
             }
@@ -68,7 +67,7 @@ pub fn read_model(text: &[u8], table: &mut [u32]) -> Read
     if TEXT_MOST < text.len() {
         return Read::Refused(1, TEXT_MOST);
     }
-    let p = stops::first_stop(text);
+    let p = lines::first_stop(text);
     if p < text.len() {
         return Read::Refused(2, p);
     }

@@ -15,10 +15,9 @@ ghost use Rattle.model_text.specs.Entered.{entered, Enters};
 ghost use Rattle.model_text.specs.Meant.{Stepped};
 use crate::marks;
 use crate::rules;
-use lines::fields;
 
 // What became of a record: the place after it and the next cursor, when it was entered; the text's end; or a refusal and its place.
-pub enum Step {
+pub enum Taken {
     Next { at: usize, cursor: usize },
     End,
     Fault(u32, usize),
@@ -39,54 +38,54 @@ fn store(t: &mut [u32], j: usize, v: [u32; 3], k: usize, n: usize)
 }
 
 // The first n numbers v of a record at `at`, with the cursor at i; the line ends before next.
-fn enter(q: u32, at: usize, i: usize, t: &mut [u32], v: [u32; 3], n: usize, next: usize) -> Step
+fn enter(q: u32, at: usize, i: usize, t: &mut [u32], v: [u32; 3], n: usize, next: usize) -> Taken
     requires { ⌜ Enters q (now t) v n ⌝ }
     ensures { λ r. ⌜ Stepped (entered (markNo q) at i (now (t .entry)) v n next) r (now (t .entry)) (now (t .exit)) ⌝ }
 {
     let w = rules::wrong(q, t, v);
     if 0 < w {
-        return Step::Fault(w, at);
+        return Taken::Fault(w, at);
     }
     let j = rules::slot(q, t, v);
     if j < i {
-        return Step::Fault(6, at);
+        return Taken::Fault(6, at);
     }
     let k = rules::keys(q);
     store(t, j, v, k, n);
-    Step::Next {
+    Taken::Next {
         at: next,
         cursor: j + 1,
     }
 }
 
 // The record at `at`, with the cursor at i.
-pub(crate) fn take(s: &[u8], at: usize, i: usize, t: &mut [u32]) -> Step
+pub(crate) fn take(s: &[u8], at: usize, i: usize, t: &mut [u32]) -> Taken
     requires { ⌜ (length (now t) ≡ size) × (clocks (now t) ≤ clocksMost) × (at ≤ length (now s)) ⌝ }
     ensures { λ r. ⌜ Stepped (look (now (s .entry)) at i (now (t .entry))) r (now (t .entry)) (now (t .exit)) ⌝ }
 {
     let q = marks::mark(s, at);
     if !rules::due(q, t) {
-        return Step::Fault(3, at);
+        return Taken::Fault(3, at);
     }
     if rules::latest(q, t) < i {
-        return Step::Fault(3, at);
+        return Taken::Fault(3, at);
     }
     if !rules::room(q, t) {
-        return Step::Fault(10, at);
+        return Taken::Fault(10, at);
     }
     let g = rules::ranges_of(q, t);
     let below = g.below;
     let low = g.low;
     let high = g.high;
-    let line = fields::read_line(s, at + 2, g.n, below, low, high);
+    let line = lines::read_line(s, at + 2, g.n, below, low, high);
     if 0 < line.refusal {
-        return Step::Fault(line.refusal, line.at);
+        return Taken::Fault(line.refusal, line.at);
     }
     if q == 9 {
         if line.at < s.len() {
-            return Step::Fault(3, line.at);
+            return Taken::Fault(3, line.at);
         }
-        return Step::End;
+        return Taken::End;
     }
     let numbers = line.numbers;
     enter(q, at, i, t, numbers, g.n, line.at)

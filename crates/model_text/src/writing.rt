@@ -9,10 +9,10 @@ ghost use Rattle.meaning.specs.Text.Records as records;
 ghost use Rattle.meaning.specs.Text.ModelTable.{size};
 ghost use Rattle.meaning.specs.Text.ModelReader.{format, readModel, left};
 ghost use Rattle.lines.specs.Put.{Put};
-ghost use Rattle.model_text.specs.Meant.{GivenTest, LengthOf, Wrote};
+ghost use Rattle.model_text.specs.Meant.{GivenTest, LengthOf, WroteModel};
 use crate::reading;
 use crate::reading::Read;
-use crate::slots;
+use crate::record_text;
 use crate::tables;
 
 // What a writer answers: done, with the length of the text; or a refusal number and its place.
@@ -32,7 +32,7 @@ fn write_table(t: &[u32], buf: &mut [u8]) -> usize
     let mut j: usize = 0;
     let mut at: usize = 0;
     while j < tables::SIZE {
-        at = slots::write_slot(t, j, buf, at);
+        at = record_text::write_slot(t, j, buf, at);
         j += 1;
     }
     buf[at] = 69;
@@ -94,7 +94,7 @@ pub fn is_model(table: &[u32]) -> bool
 
 // The text of the model's table into the buffer.
 pub fn write_model(table: &[u32], buffer: &mut [u8]) -> Written
-    ensures { λ r. ⌜ Wrote (now (table .entry)) (now (buffer .entry)) r (now (buffer .exit)) ⌝ }
+    ensures { λ r. ⌜ WroteModel (now (table .entry)) (now (buffer .entry)) r (now (buffer .exit)) ⌝ }
 {
     if table.len() != tables::SIZE {
         return Written::Refused(13, 0);

@@ -1,7 +1,7 @@
 // Reads pairs of a model's text and a proposal's text from standard input, each text behind its length in four bytes, high byte first, and
 // prints the line of the check for each pair.
 ghost use Prim.Native.Nat.{_<_};
-use console::line::Written;
+use console::Written;
 use libc::STDIN_FILENO;
 use libc::STDOUT_FILENO;
 
@@ -50,8 +50,8 @@ fn print_front(bytes: &[u8], n: usize) {
 // The line of the two texts. No line is longer than the buffer.
 fn print_line(model: &[u8], zones: &[u8]) {
     let mut buffer = [0u8; 569];
-    let told = console::texts::check_texts(model, zones);
-    if let Written::Done(n) = console::line::line(told, &mut buffer) {
+    let told = console::check_texts(model, zones);
+    if let Written::Done(n) = console::line(told, &mut buffer) {
         print_front(&buffer, n);
     }
 }

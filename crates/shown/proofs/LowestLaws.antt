@@ -12,11 +12,13 @@ use Rattle.meaning.specs.Model.{Bound, Model}
 use Rattle.meaning.specs.Zones.Variables.{variables}
 use Rattle.meaning.specs.Zones.Zone.{Zone}
 use Rattle.meaning.specs.Zones.Steps.{Step}
-use Rattle.meaning.proofs.Numbers.{shift}
-use Rattle.meaning.proofs.Exact.Bounds.{bound, apart-meets, met-append}
-use Rattle.meaning.proofs.Exact.Moves as E
-use Rattle.meaning.proofs.Exact.Reached.{sourceBounds, Source, planAt}
-use Rattle.meaning.proofs.Exact.Smallest.{Lowest, lowest-same, ApartBefore}
+use Rattle.meaning.specs.Inner.Words.{shift}
+use Rattle.meaning.specs.Inner.Bounds.{bound}
+use Rattle.meaning.specs.Inner.Sources.{sourceBounds, Source, planAt}
+use Rattle.meaning.specs.Inner.Smallest.{Lowest, ApartBefore}
+use Rattle.meaning.proofs.Exact.Bounds.{apart-meets, met-append}
+use Rattle.meaning.specs.Inner.Plans as E
+use Rattle.meaning.proofs.Exact.Smallest.{lowest-same}
 use Rattle.meaning.proofs.Exact.Solved.{source-lowest}
 use Rattle.bounds.specs.Matrix.{at, ent, Sol}
 use Rattle.bounds.specs.Images.{var}
@@ -24,7 +26,7 @@ use Rattle.bounds.specs.Range.{Ready}
 use Rattle.bounds.specs.Results.{Smallest}
 use Rattle.bounds.specs.declared.tightening.Tight.{Tight}
 use Rattle.bounds.proofs.Points.{low, low-sol}
-use Rattle.step_bounds.specs.Narrowed.{boundSize, Narrowed, Narrows}
+use Rattle.zone_bounds.specs.Narrowed.{boundSize, Narrowed, Narrows}
 use Rattle.step_reach.specs.declared.plan.Plan.{Plan}
 use Rattle.shown.specs.Drawn.{Drawn}
 use Rattle.shown.specs.Moving.{ShownBy}

@@ -17,21 +17,23 @@ use Rattle.meaning.specs.Zones.Zone.{Zone}
 use Rattle.meaning.specs.Zones.Steps.{Step}
 use Rattle.meaning.specs.Zones.Reached.{Home, homeOfZone}
 use Rattle.meaning.specs.Text.RightModel.{RightModel}
-use Rattle.meaning.proofs.Lists.{tabFrom, length-tab, getD-tab}
-use Rattle.meaning.proofs.Exact.Valuations.{Slot, slots, slotsOf, Reads, jobsAt, Agrees, length-slots, lies-agrees, agrees-cong, agrees-state, RangedZone}
-use Rattle.meaning.proofs.Exact.StepBounds.{RangedModel}
-use Rattle.meaning.proofs.Exact.Loops.{sumAhead}
-use Rattle.meaning.proofs.Exact.Moves as E
+use Rattle.meaning.specs.Inner.Words.{tabFrom}
+use Rattle.meaning.specs.Inner.Slots.{Slot, slots, slotsOf, sumAhead, Reads, jobsAt, Agrees, RangedZone}
+use Rattle.meaning.specs.Inner.StepBounds.{RangedModel}
+use Rattle.meaning.specs.Inner.Sources.{Source, planAt, homeAt, movedState}
+use Rattle.meaning.proofs.Lists.{length-tab, getD-tab}
+use Rattle.meaning.proofs.Exact.Valuations.{length-slots, lies-agrees, agrees-cong, agrees-state}
+use Rattle.meaning.specs.Inner.Plans as E
 use Rattle.meaning.proofs.Exact.Ranges.{from-in, off-size}
-use Rattle.meaning.proofs.Exact.Reached.{Source, planAt, homeAt, moved-shown, moved-leads, shown-lies, source-room}
-use Rattle.meaning.proofs.Exact.Smallest.{movedState}
+use Rattle.meaning.proofs.Exact.Reached.{moved-shown, moved-leads, shown-lies, source-room}
 use Rattle.bounds.specs.Matrix.{ent, Size}
 use Rattle.bounds.specs.Images.{var}
 use Rattle.machine.specs.Stands.{cellOf, noJob, padded, cellsOf, held}
 use Rattle.machine.specs.declared.Job.{Job}
 use Rattle.machine.proofs.Arrays.{padded-is}
 use Rattle.step_reach.specs.declared.plan.Plan.{Plan}
-use Rattle.step_reach.specs.Plans.{homeOf, Planned}
+use Rattle.home.specs.Stands.{orderOf}
+use Rattle.step_reach.specs.Plans.{Planned}
 use Rattle.step_reach.proofs.ReplyLaws.{variables-few, head-small}
 use Rattle.shown.specs.Moving.{Movable, Moved, Rising, cellAt}
 
@@ -123,8 +125,8 @@ reads-rising x a v (t ∷ o) (j ∷ q) h (suc k) l =
 
 -- ---- the state after the step
 
-module _ (m : Model) (z : Zone) (st : Step) (p : Plan) (q : Planned m z st p) where
-  pub order-is : homeOf p .order ≡ homeAt m z st .order
+module _ (m : Model) (z : Zone) (st : Step) (p : Plan) (q : Planned m (homeOfZone z) st p) where
+  pub order-is : orderOf (p .home) ≡ homeAt m z st .order
   order-is = ap (λ (h : Home). h .order) (q .home)
 
   -- as many variables as the queue after the step has
@@ -136,9 +138,9 @@ module _ (m : Model) (z : Zone) (st : Step) (p : Plan) (q : Planned m z st p) wh
   plan-into few i h = omega (arith, q .from i h, from-in m (homeOfZone z) st i)
 
 -- the plan of a step: few variables, with a small number added
-module _ (m : Model) (z : Zone) (st : Step) (p : Plan) (q : Planned m z st p) (w : RightModel m) where
+module _ (m : Model) (z : Zone) (st : Step) (p : Plan) (q : Planned m (homeOfZone z) st p) (w : RightModel m) where
   pub plan-few : p .variables ≤ 17
-  plan-few = omega (arith, q .many, variables-few m w (p .count) (p .tasks) (q .few))
+  plan-few = omega (arith, q .many, variables-few m w (p .home .count) (p .home .tasks) (q .few))
 
   pub plan-size : (i : ℕ) → i < p .variables → Size (ent (p .off) i) 100000
   plan-size i h =
@@ -146,7 +148,7 @@ module _ (m : Model) (z : Zone) (st : Step) (p : Plan) (q : Planned m z st p) (w
       let c = head-small m w (z .order) in
       subst (λ (u : ℤ). Size u 100000) (sym (q .off i h)) (record { high = omega (arith, y .0, y .1); low = omega (arith, y .0, y .1) })
 
-module _ (m : Model) (z : Zone) (st : Step) (rm : RangedModel m) (rz : RangedZone m z) (p : Plan) (q : Planned m z st p) (x : List ℕ) (s : Source m z st (var x)) where
+module _ (m : Model) (z : Zone) (st : Step) (rm : RangedModel m) (rz : RangedZone m z) (p : Plan) (q : Planned m (homeOfZone z) st p) (x : List ℕ) (s : Source m z st (var x)) where
   pub movable : RightModel m → variables m (z .order) ≤ 17 → ((k : ℕ) → var x k ≤ 300000000) → Movable (p .variables) (p .from) (p .off) x
   movable w few low = record {
     few = plan-few m z st p q w;
@@ -169,27 +171,27 @@ module _ (m : Model) (z : Zone) (st : Step) (rm : RangedModel m) (rz : RangedZon
         (subst (λ (j : ℕ). var v i + under (ent (p .off) i) ≡ var x j + over (ent (p .off) i)) (q .from i k) (w .is i k)) in
         omega (arith, a, b)
 
-    agrees : Agrees m (homeOf p .order) (var v) (movedState m z st (var x))
+    agrees : Agrees m (orderOf (p .home)) (var v) (movedState m z st (var x))
     agrees =
         let t = movedState m z st (var x) in
         let l = shown-lies m z st t (moved-shown m z st rm rz (var x) s) in
         subst (λ (o : List ℕ). Agrees m o (var v) t) (sym (order-is m z st p q)) (agrees-cong (var v) value-is (lies-agrees m (homeAt m z st) t l))
 
-    pub rising : (n : ℕ) → n ≡ m .clocks → length (p .tasks) ≡ 6 → Rising n (p .count) v
+    pub rising : (n : ℕ) → n ≡ m .clocks → length (p .home .tasks) ≡ 6 → Rising n (p .home .count) v
     rising n e l = record {
       each = λ k h.
-          let len = length-take-le (p .count) (p .tasks) (omega (arith, q .few)) in
-          rw e (reads-rising (var v) 0 (suc (m .clocks)) (homeOf p .order) (movedState m z st (var x) .queue) (agrees .queue) k (omega arith));
+          let len = length-take-le (p .home .count) (p .home .tasks) (omega (arith, q .few)) in
+          rw e (reads-rising (var v) 0 (suc (m .clocks)) (orderOf (p .home)) (movedState m z st (var x) .queue) (agrees .queue) k (omega arith));
     }
 
-    pub state-is : (n : ℕ) (cs : List ℕ) (js : List Job) → n ≡ m .clocks → length (p .tasks) ≡ 6 → cs ≡ padded 0 4 (tabFrom 1 (var v) n)
-        → js ≡ cellsOf (jobsAt (var v) 0 (slots (suc n) (take (p .count) (p .tasks)))) → record { location = p .location; clocks = cs; jobs = js; count = p .count } ≡ held (movedState m z st (var x))
+    pub state-is : (n : ℕ) (cs : List ℕ) (js : List Job) → n ≡ m .clocks → length (p .home .tasks) ≡ 6 → cs ≡ padded 0 4 (tabFrom 1 (var v) n)
+        → js ≡ cellsOf (jobsAt (var v) 0 (slots (suc n) (take (p .home .count) (p .home .tasks)))) → record { location = p .home .location; clocks = cs; jobs = js; count = p .home .count } ≡ held (movedState m z st (var x))
     state-is n cs js e l a b =
         let t = movedState m z st (var x) in
-        let o = homeOf p .order in
+        let o = orderOf (p .home) in
         let ca : cs ≡ padded 0 4 (tabFrom 1 (var v) (m .clocks)) = a ∙ ap (λ (k : ℕ). padded 0 4 (tabFrom 1 (var v) k)) e in
         let jb : js ≡ cellsOf (jobsAt (var v) 0 (slotsOf m o)) = b ∙ ap (λ (k : ℕ). cellsOf (jobsAt (var v) 0 (slots (suc k) o))) e in
-        let n : p .count ≡ length (jobsAt (var v) 0 (slotsOf m o)) =
-        sym (length-jobs (var v) 0 (slotsOf m o) ∙ length-slots (suc (m .clocks)) o ∙ length-take-le (p .count) (p .tasks) (omega (arith, q .few))) in
-        (λ i. record { location = p .location; clocks = ca i; jobs = jb i; count = n i })
-        ∙ ap held (sym (agrees-state agrees (p .location) (ap (λ (h : Home). h .location) (sym (q .home)))))
+        let n : p .home .count ≡ length (jobsAt (var v) 0 (slotsOf m o)) =
+        sym (length-jobs (var v) 0 (slotsOf m o) ∙ length-slots (suc (m .clocks)) o ∙ length-take-le (p .home .count) (p .home .tasks) (omega (arith, q .few))) in
+        (λ i. record { location = p .home .location; clocks = ca i; jobs = jb i; count = n i })
+        ∙ ap held (sym (agrees-state agrees (p .home .location) (ap (λ (h : Home). h .location) (sym (q .home)))))

@@ -8,10 +8,11 @@ use mir.Syntax.{w32}
 use mir.Val.{SFits, toZ}
 use mir.ValLaws.{toZ-pos}
 use Rattle.meaning.specs.Numbers.{over, under}
-use Rattle.meaning.proofs.Numbers.{shift, shift-parts, over-neg, under-neg, parts-one}
+use Rattle.meaning.specs.Inner.Words.{shift}
+use Rattle.meaning.proofs.Numbers.{shift-parts, over-neg, under-neg, parts-one}
 use Rattle.bounds.specs.Matrix.{Size}
 use Rattle.bounds.proofs.Signed.{rd, at, eq-read, sum-law, diff-law, fits-make, abs-law}
-use Rattle.step_bounds.specs.Narrowed.{boundSize}
+use Rattle.zone_bounds.specs.Narrowed.{boundSize}
 
 pub small-fits : (c : ℤ) → Size c 100000 → SFits w32 c
 small-fits c s = fits-make (omega (arith, s .high)) (omega (arith, s .low))

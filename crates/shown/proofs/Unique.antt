@@ -10,11 +10,12 @@ use Rattle.meaning.specs.Model.{Model}
 use Rattle.meaning.specs.Zones.Variables.{variables}
 use Rattle.meaning.specs.Zones.Zone.{Zone}
 use Rattle.meaning.specs.Zones.Steps.{Step}
+use Rattle.meaning.specs.Inner.Slots.{RangedZone}
+use Rattle.meaning.specs.Inner.StepBounds.{RangedModel}
+use Rattle.meaning.specs.Inner.Sources.{homeAt, movedState}
 use Rattle.meaning.proofs.Zones.Home.{below-same}
-use Rattle.meaning.proofs.Exact.Valuations.{RangedZone}
-use Rattle.meaning.proofs.Exact.StepBounds.{RangedModel}
-use Rattle.meaning.proofs.Exact.Reached.{homeAt, shown-lies}
-use Rattle.meaning.proofs.Exact.Smallest.{movedState, shown-least, apart-least}
+use Rattle.meaning.proofs.Exact.Reached.{shown-lies}
+use Rattle.meaning.proofs.Exact.Smallest.{shown-least, apart-least}
 use Rattle.bounds.specs.declared.tightening.Tight.{Tight}
 use Rattle.machine.specs.declared.State.{State}
 use Rattle.machine.specs.Stands.{held}

@@ -10,14 +10,14 @@ use Rattle.meaning.specs.Model.{Model}
 use Rattle.meaning.specs.Zones.Variables.{variables}
 use Rattle.meaning.specs.Zones.Zone.{Zone}
 use Rattle.meaning.specs.Zones.Steps.{Step}
-use Rattle.meaning.proofs.Exact.Valuations.{RangedZone}
-use Rattle.meaning.proofs.Exact.Reached.{sourceBounds, Source, homeAt}
-use Rattle.meaning.proofs.Exact.Smallest.{Lowest, movedState, ApartBefore}
-use Rattle.meaning.proofs.Exact.Faulty.{LateBefore}
+use Rattle.meaning.specs.Zones.Reached.{homeOfZone}
+use Rattle.meaning.specs.Inner.Slots.{RangedZone}
+use Rattle.meaning.specs.Inner.Sources.{sourceBounds, Source, homeAt, movedState}
+use Rattle.meaning.specs.Inner.Smallest.{Lowest, ApartBefore, LateBefore}
 use Rattle.bounds.specs.declared.tightening.Tight.{Tight}
 use Rattle.machine.specs.declared.State.{State}
 use Rattle.machine.specs.Stands.{held}
-use Rattle.step_bounds.specs.Narrowed.{Narrowed}
+use Rattle.zone_bounds.specs.Narrowed.{Narrowed}
 use Rattle.step_reach.specs.declared.plan.Plan.{Plan}
 use Rattle.step_reach.specs.Plans.{Planned}
 
@@ -27,7 +27,7 @@ pub record Drawn (m : Model) (z : Zone) (st : Step) (t : Tight) (p : Plan) : Typ
   pub few : variables m (z .order) ≤ 17
   pub narrowed : Narrowed (sourceBounds m z st) t
   pub some : t .empty ≡ false
-  pub planned : Planned m z st p
+  pub planned : Planned m (homeOfZone z) st p
 
 -- they are those of some zone and step
 pub record DrawnBy (m : Model) (t : Tight) (p : Plan) : Type 0 where

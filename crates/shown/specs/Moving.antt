@@ -8,9 +8,9 @@ use Rattle.meaning.specs.Model.{Model}
 use Rattle.meaning.specs.Zones.Variables.{variables}
 use Rattle.meaning.specs.Zones.Zone.{Zone}
 use Rattle.meaning.specs.Zones.Steps.{Step}
-use Rattle.meaning.proofs.Exact.Valuations.{RangedZone}
-use Rattle.meaning.proofs.Exact.Loops.{sumAhead}
-use Rattle.meaning.proofs.Exact.Reached.{Source}
+use Rattle.meaning.specs.Zones.Reached.{homeOfZone}
+use Rattle.meaning.specs.Inner.Slots.{sumAhead, RangedZone}
+use Rattle.meaning.specs.Inner.Sources.{Source}
 use Rattle.bounds.specs.Matrix.{ent, Size}
 use Rattle.bounds.specs.Images.{var, Image}
 use Rattle.machine.specs.declared.Job.{Job}
@@ -43,6 +43,6 @@ pub record ShownBy (m : Model) (p : Plan) (x : List ℕ) : Type 0 where
   pub step : Step
   pub ranged : RangedZone m zone
   pub few : variables m (zone .order) ≤ 17
-  pub planned : Planned m zone step p
+  pub planned : Planned m (homeOfZone zone) step p
   pub source : Source m zone step (var x)
   pub low : (k : ℕ) → var x k ≤ 300000000

@@ -1,11 +1,12 @@
 // The first position at which a job can be late.
 ghost use Rattle.meaning.specs.Zones.Zone.{Zone};
 ghost use Rattle.meaning.specs.Zones.Steps.{Step};
-ghost use Rattle.meaning.specs.Text.ModelTable.{decode};
 ghost use Rattle.model_table.specs.Right.{RightTable};
+ghost use Rattle.meaning.specs.Text.ModelTable.{decode};
 ghost use Rattle.shown.specs.Drawn.{Drawn, DrawnBy, FirstLate};
 use bounds::Tight;
 use bounds::reached;
+use home::sum_at;
 use model_table::clocks;
 use model_table::deadline;
 use step_reach::Plan;
@@ -20,12 +21,13 @@ pub fn first_late(model: &[u32], t: Tight, plan: Plan) -> u32
     let m = t.m;
     let from = plan.from;
     let off = plan.off;
-    let tasks = plan.tasks;
-    let count = plan.count as usize;
+    let after = plan.home;
+    let tasks = after.tasks;
+    let count = after.count as usize;
     let n = clocks(model) as usize;
     let mut k = 0;
     while k < count {
-        let age = reached(&m, &from, &off, n + 2 + 2 * k, 0);
+        let age = reached(&m, &from, &off, sum_at(n, k) + 1, 0);
         let d = deadline(model, tasks[k]) as i32;
         if d <= age {
             return (k as u32) + 1;

@@ -2,16 +2,16 @@
 ghost use Prim.Native.Nat.{_<_};
 ghost use Rattle.meaning.specs.Zones.Zone.{Zone};
 ghost use Rattle.meaning.specs.Zones.Steps.{Step};
-ghost use Rattle.meaning.specs.Text.ModelTable.{decode};
 ghost use Rattle.model_table.specs.Right.{RightTable};
+ghost use Rattle.meaning.specs.Text.ModelTable.{decode};
 ghost use Rattle.bounds.specs.Matrix.{Size};
 ghost use Rattle.shown.specs.Drawn.{Drawn, DrawnBy, ApartBy, SmallestIs, SmallestApart};
 use crate::state::shown_state;
 use bounds::Tight;
 use bounds::least;
 use machine::State;
-use step_bounds::narrow;
 use step_reach::Plan;
+use zone_bounds::narrow;
 
 // The smallest of all.
 pub fn smallest(model: &[u32], t: Tight, plan: Plan) -> State

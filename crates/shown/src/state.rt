@@ -5,23 +5,23 @@ ghost use lib.ListN.{take};
 ghost use Rattle.meaning.specs.Numbers.{over, under};
 ghost use Rattle.meaning.specs.Zones.Zone.{Zone};
 ghost use Rattle.meaning.specs.Zones.Steps.{Step};
-ghost use Rattle.meaning.specs.Text.ModelTable.{decode};
-ghost use Rattle.meaning.proofs.Lists.{tabFrom};
-ghost use Rattle.meaning.proofs.Exact.Valuations.{slots, jobsAt, RangedZone};
-ghost use Rattle.meaning.proofs.Exact.Loops.{sumAhead};
-ghost use Rattle.meaning.proofs.Exact.Reached.{Source};
-ghost use Rattle.meaning.proofs.Exact.Smallest.{movedState};
+ghost use Rattle.meaning.specs.Zones.Reached.{homeOfZone};
 ghost use Rattle.model_table.specs.Right.{RightTable};
+ghost use Rattle.meaning.specs.Text.ModelTable.{decode};
+ghost use Rattle.meaning.specs.Inner.Words.{tabFrom};
+ghost use Rattle.meaning.specs.Inner.Slots.{slots, sumAhead, jobsAt, RangedZone};
+ghost use Rattle.meaning.specs.Inner.Sources.{Source, movedState};
 ghost use Rattle.bounds.specs.Matrix.{Size};
 ghost use Rattle.bounds.specs.Images.{var};
 ghost use Rattle.machine.specs.Stands.{padded, cellsOf, held};
 ghost use Rattle.step_reach.specs.Plans.{Planned};
 ghost use Rattle.shown.specs.Moving.{Movable, Moved, Rising, cellAt, ShownBy};
+use home::Tasks;
+use home::sum_ahead;
+use home::sum_at;
 use machine::Job;
 use machine::State;
 use model_table::clocks;
-use step_bounds::sum_ahead;
-use step_bounds::sum_at;
 use step_reach::Plan;
 
 // One value, moved: what is added may be below 0, the value after it is not.
@@ -78,7 +78,7 @@ fn job_at(v: [u32; 17], n: usize, task: u32, k: usize) -> Job
 }
 
 // The jobs of a queue of these tasks, behind n clocks.
-fn jobs_of(v: [u32; 17], n: usize, tasks: [u32; 6], count: usize) -> [Job; 6]
+fn jobs_of(v: [u32; 17], n: usize, tasks: Tasks, count: usize) -> [Job; 6]
     requires { ⌜ (n ≤ 4) × (count ≤ 6) ⌝ }
     requires { ⌜ Rising n count v ⌝ }
     ensures { λ r. ⌜ r ≡ cellsOf (jobsAt (var v) 0 (slots (suc n) (take count tasks))) ⌝ }
@@ -100,11 +100,12 @@ fn jobs_of(v: [u32; 17], n: usize, tasks: [u32; 6], count: usize) -> [Job; 6]
 pub(crate) fn shown_state(model: &[u32], plan: Plan, x: [u32; 17]) -> State
     requires { ⌜ RightTable (now model) ⌝ }
     requires { ⌜ ShownBy (decode (now model)) plan x ⌝ }
-    ensures { λ r. ⌜ ((z : Zone) (st : Step) → RangedZone (decode (now (model .entry))) z → Planned (decode (now (model .entry))) z st plan → Source (decode (now (model .entry))) z st (var x) → r ≡ held (movedState (decode (now (model .entry))) z st (var x))) ⌝ }
+    ensures { λ r. ⌜ ((z : Zone) (st : Step) → RangedZone (decode (now (model .entry))) z → Planned (decode (now (model .entry))) (homeOfZone z) st plan → Source (decode (now (model .entry))) z st (var x) → r ≡ held (movedState (decode (now (model .entry))) z st (var x))) ⌝ }
 {
-    let location = plan.location;
-    let tasks = plan.tasks;
-    let count = plan.count;
+    let after = plan.home;
+    let location = after.location;
+    let tasks = after.tasks;
+    let count = after.count;
     let variables = plan.variables;
     let from = plan.from;
     let off = plan.off;

@@ -1,17 +1,17 @@
 -- Laws of the head: its slot, and the bound by which it goes on or finishes.
 -- Assumes nothing.
-use mathlib.Core.Path.{_≡_, refl, sym, ap, subst}
+use mathlib.Core.Path.{_≡_, refl, sym, subst}
 use mathlib.Core.List.{List, [], _∷_}
-use Prim.Native.Nat.{ℕ, zero, suc, _≤_, _<_}
+use Prim.Native.Nat.{ℕ, zero, suc, _<_}
 use native.Mathlib.Omega.{arith}
 use lib.IntN.{subℕ}
 use lib.ListN.{length, getD, take}
-use Rattle.meaning.specs.Model.{Bound, Model, taskAt}
-use Rattle.meaning.proofs.Exact.Bounds.{bound, impossible}
-use Rattle.meaning.proofs.Exact.Valuations.{slotsOf}
-use Rattle.meaning.proofs.Exact.StepBounds.{headGoesOn, headFinishes}
+use Rattle.meaning.specs.Model.{Model, taskAt}
+use Rattle.meaning.specs.Inner.Bounds.{bound, impossible}
+use Rattle.meaning.specs.Inner.Slots.{slotsOf}
+use Rattle.meaning.specs.Inner.StepBounds.{headGoesOn, headFinishes}
 use Rattle.bounds.specs.declared.tightening.Tight.{Tight}
-use Rattle.step_bounds.specs.Narrowed.{Narrows}
+use Rattle.zone_bounds.specs.Narrowed.{Narrows}
 
 -- a queue that has jobs has a head
 pub head-of : (n : ℕ) (tasks : List ℕ) → 0 < n → 0 < length tasks → (o : List ℕ) × (take n tasks ≡ getD tasks 0 0 ∷ o)

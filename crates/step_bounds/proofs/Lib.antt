@@ -1,11 +1,6 @@
-pub mod NumberLaws
-pub mod NarrowLaws
 pub mod RangeLaws
-pub mod LoopLaws
-pub mod WrittenLaws
 pub mod TableLaws
 pub mod HeadLaws
-pub mod RuleLaws
+pub mod TestLaws
 pub mod PlaceLaws
-pub mod MoveLaws
-pub mod Unique
+pub mod StepLaws

@@ -1,29 +1,32 @@
 -- Laws of the loops over a location's limits and over an edge's guard.
 -- Assumes nothing.
-use mathlib.Core.Path.{_≡_, refl, sym, _∙_, ap, subst}
-use mathlib.Core.Bool.{Bool, true, false}
+use mathlib.Core.Path.{_≡_, refl, ap, subst}
+use mathlib.Core.Bool.{true, false}
 use mathlib.Core.List.{List, [], _∷_, _++_}
-use Prim.Native.Nat.{ℕ, suc, _+_, _-_, _/_, _%_, _≤_, _<_}
-use native.Mathlib.Omega.{arith}
+use Prim.Native.Nat.{ℕ, _+_, _-_, _/_, _%_}
 use lib.Dec.{ltb}
-use lib.IntN.{ℤ, subℕ}
-use Rattle.meaning.specs.Model.{Limit, Bound, Model, locationAt}
-use Rattle.meaning.specs.Text.ModelTable.{collect, decode, lowered}
-use Rattle.meaning.proofs.Exact.Bounds.{bound}
-use Rattle.meaning.proofs.Exact.StepBounds.{limitBounds}
+use lib.IntN.{subℕ}
+use Rattle.meaning.specs.Model.{Limit, Bound, locationAt}
 use Rattle.model_table.specs.Right.{RightTable}
-use Rattle.model_table.specs.Parts.{limitIn, boundIn, limitsOf, guardOf}
+use Rattle.meaning.specs.Text.ModelTable.{collect, decode, lowered}
+use Rattle.meaning.specs.Inner.Bounds.{bound}
+use Rattle.meaning.specs.Inner.StepBounds.{limitBounds}
+use Rattle.model_table.specs.Parts.{limitIn, boundIn}
 use Rattle.model_table.proofs.PartLaws.{limits-is}
 use Rattle.bounds.specs.declared.tightening.Tight.{Tight}
-use Rattle.step_bounds.specs.Narrowed.{Usable, Narrows}
-use Rattle.step_bounds.proofs.LoopLaws.{table-first, table-next, table-same, limits-more}
+use Rattle.zone_bounds.specs.Narrowed.{Workable, Narrows}
+use Rattle.zone_bounds.proofs.LoopLaws.{table-first, table-next, table-same}
+
+limits-more : (xs ys : List Limit) → limitBounds (xs ++ ys) ≡ limitBounds xs ++ limitBounds ys
+limits-more [] ys = refl
+limits-more (x ∷ xs) ys = ap (λ (l : List Bound). limitBounds (x ∷ []) ++ l) (limits-more xs ys)
 
 -- the limits of the first x clocks
 abbrev pub limitsTo : List ℕ → ℕ → ℕ → List Limit
 limitsTo t l x = collect x (λ k. ltb 0 (limitIn t l (1 + k))) (λ k. record { clock = 1 + k; most = limitIn t l (1 + k) - 1 })
 
 module _ (t : List ℕ) (l : ℕ) where
-  pub limits-first : (a : Tight) → Usable a → Narrows (limitBounds (limitsTo t l 0)) a a
+  pub limits-first : (a : Tight) → Workable a → Narrows (limitBounds (limitsTo t l 0)) a a
   limits-first a u =
       table-first limitBounds (λ x. limitBounds (x ∷ [])) refl limits-more (λ x. refl) (λ k. ltb 0 (limitIn t l (1 + k)))
       (λ k. record { clock = 1 + k; most = limitIn t l (1 + k) - 1 }) a u
@@ -51,7 +54,7 @@ abbrev pub guardTo : List ℕ → ℕ → ℕ → List Bound
 guardTo t e x = collect x (λ k. ltb 0 (boundIn t e (k / 5) (k % 5))) (guardBound t e)
 
 module _ (t : List ℕ) (e : ℕ) where
-  pub guard-first : (a : Tight) → Usable a → Narrows (guardTo t e 0) a a
+  pub guard-first : (a : Tight) → Workable a → Narrows (guardTo t e 0) a a
   guard-first a u =
       table-first (λ (x : List Bound). x) (λ x. x ∷ []) refl (λ xs ys. refl) (λ x. refl) (λ k. ltb 0 (boundIn t e (k / 5) (k % 5))) (guardBound t e) a u
 

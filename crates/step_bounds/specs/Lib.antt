@@ -1,3 +1,2 @@
-pub mod Narrowed
-pub mod Moves
-pub mod Rules
+pub mod Tests
+pub mod Places

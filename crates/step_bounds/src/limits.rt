@@ -1,18 +1,18 @@
 // A tick: the clocks after it meet the location's limits.
 ghost use Rattle.meaning.specs.Model.{locationAt};
-ghost use Rattle.meaning.specs.Text.ModelTable.{decode};
-ghost use Rattle.meaning.proofs.Exact.StepBounds.{limitBounds};
 ghost use Rattle.model_table.specs.Right.{RightTable};
-ghost use Rattle.step_bounds.specs.Narrowed.{Usable, Narrows};
-use crate::narrowing::narrow;
-use crate::numbers::less;
+ghost use Rattle.meaning.specs.Text.ModelTable.{decode};
+ghost use Rattle.meaning.specs.Inner.StepBounds.{limitBounds};
+ghost use Rattle.zone_bounds.specs.Narrowed.{Workable, Narrows};
 use bounds::Tight;
 use model_table::limit;
+use zone_bounds::less;
+use zone_bounds::narrow;
 
 // Each limit of the location: after the tick the clock is 1 more, so before it at most the limit less 1.
 pub(crate) fn limits(model: &[u32], t: Tight, location: u32) -> Tight
     requires { ⌜ RightTable (now model) ⌝ }
-    requires { ⌜ Usable t ⌝ }
+    requires { ⌜ Workable t ⌝ }
     ensures { λ r. ⌜ Narrows (limitBounds (locationAt (decode (now (model .entry))) location .limits)) t r ⌝ }
 {
     let mut r = t;

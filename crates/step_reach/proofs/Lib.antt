@@ -1,7 +1,6 @@
-pub mod OrderLaws
 pub mod VariableLaws
 pub mod PlanLaws
-pub mod TestLaws
+pub mod EnterLaws
+pub mod PlanUnique
 pub mod ReplyLaws
 pub mod Unique
-pub mod PlanUnique

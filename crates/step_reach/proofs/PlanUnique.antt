@@ -1,53 +1,49 @@
 -- The contract of a plan determines it.
 -- Assumes nothing.
-use mathlib.Core.Path.{_≡_, refl, sym, _∙_, ap, subst}
+use mathlib.Core.Path.{_≡_, sym, _∙_, ap}
 use mathlib.Core.List.{List}
 use Prim.Native.Nat.{ℕ, _≤_, _<_}
 use native.Mathlib.Omega.{arith}
 use native.Mathlib.Decide.{decLt}
-use lib.IntN.{ℤ, pos}
+use lib.IntN.{pos}
 use lib.ListN.{length, getD, take}
 use lib.Seq.{length-take-le, getD-take, ext-getD}
 use Rattle.meaning.specs.Model.{Model}
 use Rattle.meaning.specs.Zones.Variables.{variables}
-use Rattle.meaning.specs.Zones.Zone as Z
 use Rattle.meaning.specs.Zones.Steps.{Step}
 use Rattle.meaning.specs.Zones.Reached.{Home}
 use Rattle.step_reach.specs.declared.plan.Plan.{Plan}
-use Rattle.step_reach.specs.Plans.{homeOf, Planned}
+use Rattle.home.specs.declared.Home as H
+use Rattle.home.specs.Stands.{homeOf}
+use Rattle.step_reach.specs.Plans.{Planned}
 
 -- arrays by value have their length
 pub record LongPlan (p : Plan) : Type 0 where
-  pub tasks : length (p .tasks) ≡ 6
+  pub tasks : length (p .home .tasks) ≡ 6
   pub from : length (p .from) ≡ 17
   pub off : length (p .off) ≡ 17
 
-abbrev plan : ℕ → List ℕ → ℕ → ℕ → List ℕ → List ℤ → Plan
-plan l o c n f u = record { location = l; tasks = o; count = c; variables = n; from = f; off = u }
+-- a home by value is the one that it stands for, with unused cells 0
+pub home-once : (a b : H.Home) → length (a .tasks) ≡ 6 → length (b .tasks) ≡ 6 → a .count ≤ 6 → b .count ≤ 6
+    → ((k : ℕ) → a .count ≤ k → getD (a .tasks) k 0 ≡ 0) → ((k : ℕ) → b .count ≤ k → getD (b .tasks) k 0 ≡ 0) → homeOf a ≡ homeOf b → a ≡ b
+home-once a b l k f g u v e =
+    let order : take (a .count) (a .tasks) ≡ take (b .count) (b .tasks) = ap (λ (h : Home). h .order) e in
+    let count : a .count ≡ b .count =
+    sym (length-take-le (a .count) (a .tasks) (omega arith)) ∙ ap length order ∙ length-take-le (b .count) (b .tasks) (omega arith) in
+    let location = ap (λ (h : Home). h .location) e in
+    let tasks = ext-getD 0 (a .tasks) (b .tasks) (l ∙ sym k) (λ x h. go order count x (decLt x (a .count))) in
+    (λ x. record { location = location x; tasks = tasks x; count = count x })
+  where
+    go : take (a .count) (a .tasks) ≡ take (b .count) (b .tasks) → a .count ≡ b .count → (x : ℕ) → Dec (x < a .count) → getD (a .tasks) x 0 ≡ getD (b .tasks) x 0
+    go o n x (yes h) = sym (getD-take (a .count) (a .tasks) x 0 h) ∙ ap (λ (y : List ℕ). getD y x 0) o ∙ getD-take (b .count) (b .tasks) x 0 (omega arith)
+    go o n x (no h) = u x (omega arith) ∙ sym (v x (omega arith))
 
-same-plan : (l₁ l₂ : ℕ) (o₁ o₂ : List ℕ) (c₁ c₂ n₁ n₂ : ℕ) (f₁ f₂ : List ℕ) (u₁ u₂ : List ℤ) → l₁ ≡ l₂ → o₁ ≡ o₂ → c₁ ≡ c₂ → n₁ ≡ n₂ → f₁ ≡ f₂ → u₁ ≡ u₂
-    → plan l₁ o₁ c₁ n₁ f₁ u₁ ≡ plan l₂ o₂ c₂ n₂ f₂ u₂
-same-plan l₁ l₂ o₁ o₂ c₁ c₂ n₁ n₂ f₁ f₂ u₁ u₂ a b c d e f = rw (a, b, c, d, e, f)
-
-module _ (m : Model) (z : Z.Zone) (st : Step) (p q : Plan) (l : LongPlan p) (k : LongPlan q) (v : Planned m z st p) (w : Planned m z st q) where
-  same-home : homeOf p ≡ homeOf q
+module _ (m : Model) (h : Home) (st : Step) (p q : Plan) (l : LongPlan p) (k : LongPlan q) (v : Planned m h st p) (w : Planned m h st q) where
+  same-home : homeOf (p .home) ≡ homeOf (q .home)
   same-home = v .home ∙ sym (w .home)
 
-  same-order : take (p .count) (p .tasks) ≡ take (q .count) (q .tasks)
-  same-order = ap (λ (h : Home). h .order) same-home
-
-  same-count : p .count ≡ q .count
-  same-count =
-      sym (length-take-le (p .count) (p .tasks) (omega (arith, v .few, l .tasks))) ∙ ap length same-order
-      ∙ length-take-le (q .count) (q .tasks) (omega (arith, w .few, k .tasks))
-
   same-many : p .variables ≡ q .variables
-  same-many = v .many ∙ ap (variables m) same-order ∙ sym (w .many)
-
-  task-same : (x : ℕ) → Dec (x < p .count) → getD (p .tasks) x 0 ≡ getD (q .tasks) x 0
-  task-same x (yes h) =
-      sym (getD-take (p .count) (p .tasks) x 0 h) ∙ ap (λ (o : List ℕ). getD o x 0) same-order ∙ getD-take (q .count) (q .tasks) x 0 (omega (arith, same-count))
-  task-same x (no h) = v .unused x (omega arith) ∙ sym (w .unused x (omega (arith, same-count)))
+  same-many = v .many ∙ ap (λ (x : Home). variables m (x .order)) same-home ∙ sym (w .many)
 
   from-same : (x : ℕ) → Dec (x < p .variables) → getD (p .from) x 0 ≡ getD (q .from) x 0
   from-same x (yes h) = v .from x h ∙ sym (w .from x (omega (arith, same-many)))
@@ -59,9 +55,7 @@ module _ (m : Model) (z : Z.Zone) (st : Step) (p q : Plan) (l : LongPlan p) (k :
 
   pub plan-once : p ≡ q
   plan-once =
-      same-plan (p .location) (q .location) (p .tasks) (q .tasks) (p .count) (q .count) (p .variables) (q .variables) (p .from) (q .from) (p .off) (q .off)
-      (ap (λ (h : Home). h .location) same-home)
-      (ext-getD 0 (p .tasks) (q .tasks) (l .tasks ∙ sym (k .tasks)) (λ x h. task-same x (decLt x (p .count))))
-      same-count same-many
-      (ext-getD 0 (p .from) (q .from) (l .from ∙ sym (k .from)) (λ x h. from-same x (decLt x (p .variables))))
-      (ext-getD (pos 0) (p .off) (q .off) (l .off ∙ sym (k .off)) (λ x h. off-same x (decLt x (p .variables))))
+      let home = home-once (p .home) (q .home) (l .tasks) (k .tasks) (v .few) (w .few) (v .unused) (w .unused) same-home in
+      let from = ext-getD 0 (p .from) (q .from) (l .from ∙ sym (k .from)) (λ x h. from-same x (decLt x (p .variables))) in
+      let off = ext-getD (pos 0) (p .off) (q .off) (l .off ∙ sym (k .off)) (λ x h. off-same x (decLt x (p .variables))) in
+      (λ x. record { home = home x; variables = same-many x; from = from x; off = off x })

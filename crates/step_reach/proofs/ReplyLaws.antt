@@ -1,16 +1,15 @@
 -- From a narrowed matrix and a plan to the right reply: each entry is the tightest bound of the states shown, or there is none.
 -- Assumes nothing.
-use mathlib.Core.Path.{_≡_, refl, sym, _∙_, ap, ap₂, subst}
-use mathlib.Core.Bool.{Bool, true, false, not, _&&_}
+use mathlib.Core.Path.{_≡_, refl, sym, _∙_, ap, subst}
+use mathlib.Core.Bool.{true, false, not}
 use mathlib.Core.List.{List, [], _∷_}
 use mathlib.Core.Logic.{_⊎_, inl, inr, ⊎-elim}
-use mathlib.Core.Option.{Option, none, some}
-use Prim.Native.Nat.{ℕ, zero, suc, _+_, _*_, _/_, _%_, _≤_, _<_}
+use mathlib.Core.Option.{some}
+use Prim.Native.Nat.{ℕ, zero, _+_, _*_, _≤_, _<_}
 use native.Mathlib.Omega.{arith}
 use native.Mathlib.Decide.{decLt}
-use lib.Dec.{eqb, ltb}
 use lib.IntN.{ℤ, pos, negsuc}
-use lib.ListN.{length, getD, take, replicate, length-take}
+use lib.ListN.{take, replicate, length-take}
 use borrow.Author.Tests.{lt-ltb, le-ltb, eq-eqb, ne-eqb}
 use Rattle.meaning.specs.Numbers.{over, under}
 use Rattle.meaning.specs.Model.{Model}
@@ -18,30 +17,32 @@ use Rattle.meaning.specs.Machine.State.{State}
 use Rattle.meaning.specs.Zones.Variables.{var, variables}
 use Rattle.meaning.specs.Zones.Zone as Z
 use Rattle.meaning.specs.Zones.Steps.{Step}
-use Rattle.meaning.specs.Zones.Reached.{Home, homeOfZone, homeAfter, Shown}
+use Rattle.meaning.specs.Zones.Reached.{Home, homeOfZone, Shown}
 use Rattle.meaning.specs.Zones.Tightest.{Entry, Reply, RightReply}
-use Rattle.meaning.specs.Text.Choice.{pick}
 use Rattle.meaning.specs.Text.RightModel.{RightModel}
+use Rattle.meaning.specs.Inner.Slots.{RangedZone}
+use Rattle.meaning.specs.Inner.StepBounds.{RangedModel}
+use Rattle.meaning.specs.Inner.Sources.{sourceBounds, Source, planAt, homeAt}
+use Rattle.meaning.specs.Inner.Smallest.{Solves}
 use Rattle.meaning.proofs.Tests.{never}
-use Rattle.meaning.proofs.Exact.Valuations.{RangedZone}
-use Rattle.meaning.proofs.Exact.StepBounds.{RangedModel}
-use Rattle.meaning.proofs.Exact.Moves as M
+use Rattle.meaning.specs.Inner.Plans as M
 use Rattle.meaning.proofs.Exact.Ranges.{from-in, off-size}
-use Rattle.meaning.proofs.Exact.Reached.{sourceBounds, Source, planAt, homeAt, Leads, shown-leads, leads-shown, none-shown, source-room}
+use Rattle.meaning.proofs.Exact.Reached.{shown-leads, leads-shown, none-shown, source-room}
 use Rattle.meaning.proofs.Exact.Entries.{BestE, entry-as-is}
-use Rattle.meaning.proofs.Exact.Solved.{Solves, source-iff, source-none}
-use Rattle.bounds.specs.Matrix.{ent, at, Outside, Finite, Stored, Entries, Size, Sol, Closed}
+use Rattle.meaning.proofs.Exact.Solved.{source-iff, source-none}
+use Rattle.bounds.specs.Matrix.{ent, at, Finite, Stored, Size, Sol, Closed}
 use Rattle.bounds.specs.Images.{Image, Map, Maps}
 use Rattle.bounds.specs.Images as I
 use Rattle.bounds.specs.Results.{Remapped}
 use Rattle.bounds.specs.declared.tightening.Tight.{Tight}
 use Rattle.bounds.proofs.Points.{finite?, entry-tight, entry-unbounded}
 use Rattle.bounds.proofs.Store.{zerosZ}
-use Rattle.zone.specs.Stands.{isBound}
-use Rattle.step_bounds.specs.Narrowed.{Narrowed}
+use Rattle.home.specs.Stands.{orderOf}
+use Rattle.zone_bounds.specs.Entries.{isBound}
+use Rattle.zone_bounds.specs.Narrowed.{Narrowed}
 use Rattle.step_bounds.proofs.RangeLaws.{task-times}
 use Rattle.step_reach.specs.declared.plan.Plan.{Plan}
-use Rattle.step_reach.specs.Plans.{homeOf, Planned}
+use Rattle.step_reach.specs.Plans.{Planned}
 use Rattle.step_reach.specs.Replies.{asEntry, entryAt}
 
 -- ---- the size of a zone
@@ -101,8 +102,8 @@ zeros-entry i j = entry-zero (replicate 289 (pos 0)) i j (λ h k. zerosZ 289 (i 
 -- ---- the step
 
 module _ (m : Model) (z : Z.Zone) (st : Step) (rm : RangedModel m) (rz : RangedZone m z) (few : variables m (z .order) ≤ 17) (t : Tight) (w : Narrowed (sourceBounds m z st) t)
-    (p : Plan) (q : Planned m z st p) (after : variables m (homeOf p .order) ≤ 17) where
-  pub order-is : homeOf p .order ≡ homeAt m z st .order
+    (p : Plan) (q : Planned m (homeOfZone z) st p) (after : variables m (orderOf (p .home)) ≤ 17) where
+  pub order-is : orderOf (p .home) ≡ homeAt m z st .order
   order-is = ap (λ (h : Home). h .order) (q .home)
 
   pub many-is : p .variables ≡ variables m (homeAt m z st .order)

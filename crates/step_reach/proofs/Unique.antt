@@ -1,33 +1,33 @@
 -- The contract of a zone's step determines its reply.
 -- Assumes nothing.
-use mathlib.Core.Path.{_≡_, refl, sym, _∙_, ap, ap₂, subst}
+use mathlib.Core.Path.{_≡_, refl, sym, _∙_, ap, subst}
 use mathlib.Core.Bool.{Bool, true, false, not}
 use mathlib.Core.List.{List}
-use mathlib.Core.Option.{Option, none, some}
-use Prim.Native.Nat.{ℕ, _+_, _*_, _/_, _%_, _≤_, _<_}
+use mathlib.Core.Option.{none, some}
+use Prim.Native.Nat.{ℕ, _+_, _*_, _/_, _%_, _<_}
 use native.Mathlib.Omega.{arith}
-use native.Mathlib.Decide.{decLt}
 use lib.Dec.{eqb}
 use lib.IntN.{ℤ, pos, negsuc}
-use lib.ListN.{length, getD, take}
-use lib.Seq.{ext-getD, getD-take, length-take-le}
+use lib.ListN.{length, getD}
+use lib.Seq.{ext-getD}
 use borrow.Author.Tests.{eqb-true}
-use Rattle.meaning.specs.Zones.Reached.{Home}
+use Rattle.meaning.specs.Model.{Model}
+use Rattle.meaning.specs.Zones.Zone as Z
+use Rattle.meaning.specs.Zones.Steps as S
 use Rattle.meaning.specs.Zones.Tightest.{Reply}
 use Rattle.meaning.specs.Text.Choice.{pick}
-use Rattle.meaning.specs.Text.ModelTable.{decode}
 use Rattle.meaning.proofs.Zones.Tightest.{one-reply}
 use Rattle.zone.specs.declared.Zone.{Zone}
-use Rattle.zone.specs.Stands.{isBound, zoneOf}
-use Rattle.step_bounds.specs.declared.moves.Move.{Move}
-use Rattle.step_bounds.specs.Moves.{stepOf}
+use Rattle.zone_bounds.specs.Entries.{isBound}
+use Rattle.zone_list.specs.declared.form.Step.{Step}
 use Rattle.step_reach.specs.declared.reply.StepReply.{StepReply}
 use Rattle.step_reach.specs.Replies.{asEntry, replyOf, RightStep, Replied, bad, unlisted, right}
 use Rattle.step_reach.proofs.ReplyLaws.{entry-inside}
+use Rattle.step_reach.proofs.PlanUnique.{home-once}
 
 -- an array by value has its length
 pub record Long (r : StepReply) : Type 0 where
-  pub tasks : length (r .tasks) ≡ 6
+  pub tasks : length (r .home .tasks) ≡ 6
   pub bounds : length (r .bounds) ≡ 289
 
 -- "no bound" is one value
@@ -52,27 +52,16 @@ same-bound c d e = go (isBound c) refl (isBound d) refl e
     go false p true q e = absurd (let z : _≡_ {A = ℕ} 0 1 = cc in omega arith)
     go false p false q e = one-none c d p q
 
-module _ (t : List ℕ) (z : Zone) (mv : Move) (r s : StepReply) (l : Long r) (k : Long s) where
-  right-one : RightStep t z mv r → RightStep t z mv s → r ≡ s
+module _ (m : Model) (z : Z.Zone) (st : S.Step) (r s : StepReply) (l : Long r) (k : Long s) where
+  right-one : RightStep m z st r → RightStep m z st s → r ≡ s
   right-one a b =
-      let q = one-reply (decode t) (zoneOf z) (stepOf mv) (replyOf r) (replyOf s) (a .reply) (b .reply) in
-      let home = ap (λ (x : Reply). x .home .location) q in
-      let order : take (r .count) (r .tasks) ≡ take (s .count) (s .tasks) = ap (λ (x : Reply). x .home .order) q in
+      let q = one-reply m z st (replyOf r) (replyOf s) (a .reply) (b .reply) in
+      let home = home-once (r .home) (s .home) (l .tasks) (k .tasks) (a .few) (b .few) (a .unused) (b .unused) (ap (λ (x : Reply). x .home) q) in
       let empty = ap (λ (x : Reply). x .empty) q in
-      let rn = length-take-le (r .count) (r .tasks) (omega (arith, a .few, l .tasks)) in
-      let sn = length-take-le (s .count) (s .tasks) (omega (arith, b .few, k .tasks)) in
-      let count : r .count ≡ s .count = sym rn ∙ ap length order ∙ sn in
-      let tasks = ext-getD 0 (r .tasks) (s .tasks) (l .tasks ∙ sym (k .tasks)) (λ i h. task order count i (decLt i (r .count)) a b) in
       let bounds = ext-getD (pos 0) (r .bounds) (s .bounds) (l .bounds ∙ sym (k .bounds)) (λ i h. entry q i (omega (arith, l .bounds))) in
       let refusal : r .refusal ≡ s .refusal = a .taken ∙ sym (b .taken) in
-      (λ x. record { refusal = refusal x; empty = empty x; location = home x; tasks = tasks x; count = count x; bounds = bounds x })
+      (λ x. record { refusal = refusal x; empty = empty x; home = home x; bounds = bounds x })
     where
-      task : take (r .count) (r .tasks) ≡ take (s .count) (s .tasks) → r .count ≡ s .count → (i : ℕ) → Dec (i < r .count) → RightStep t z mv r → RightStep t z mv s
-          → getD (r .tasks) i 0 ≡ getD (s .tasks) i 0
-      task o n i (yes h) a b =
-          sym (getD-take (r .count) (r .tasks) i 0 h) ∙ ap (λ (x : List ℕ). getD x i 0) o ∙ getD-take (s .count) (s .tasks) i 0 (omega arith)
-      task o n i (no h) a b = a .unused i (omega arith) ∙ sym (b .unused i (omega arith))
-
       entry : replyOf r ≡ replyOf s → (i : ℕ) → i < 289 → getD (r .bounds) i (pos 0) ≡ getD (s .bounds) i (pos 0)
       entry q i h =
           let e : i / 17 * 17 + i % 17 ≡ i = omega arith in
@@ -81,8 +70,9 @@ module _ (t : List ℕ) (z : Zone) (mv : Move) (r s : StepReply) (l : Long r) (k
           (same-bound (getD (r .bounds) (i / 17 * 17 + i % 17) (pos 0)) (getD (s .bounds) (i / 17 * 17 + i % 17) (pos 0))
           (sym (entry-inside (r .bounds) (i / 17) (i % 17) (omega arith) (omega arith)) ∙ x ∙ entry-inside (s .bounds) (i / 17) (i % 17) (omega arith) (omega arith)))
 
+module _ (t : List ℕ) (z : Zone) (step : Step) (r s : StepReply) (l : Long r) (k : Long s) where
   -- any two replies that the contract allows are one
-  pub step-once : Replied t z mv r → Replied t z mv s → r ≡ s
+  pub step-once : Replied t z step r → Replied t z step s → r ≡ s
   step-once (bad n e) (bad m f) = e ∙ sym f
   step-once (bad n e) (unlisted g v m f) = absurd (n (g, v))
   step-once (bad n e) (right g v i w) = absurd (n (g, v))
@@ -91,4 +81,4 @@ module _ (t : List ℕ) (z : Zone) (mv : Move) (r s : StepReply) (l : Long r) (k
   step-once (unlisted g v n e) (right g′ v′ i w) = absurd (n i)
   step-once (right g v i w) (bad m f) = absurd (m (g, v))
   step-once (right g v i w) (unlisted g′ v′ m f) = absurd (m i)
-  step-once (right g v i w) (right g′ v′ j u) = right-one w u
+  step-once (right g v i w) (right g′ v′ j u) = right-one _ _ _ r s l k w u

@@ -4,34 +4,31 @@
 // where each variable comes from, are a plan; the reply is the matrix, moved by the plan.
 ghost use Rattle.step_reach.specs.Replies.{Replied};
 
-mod listed;
-mod order;
 mod plan;
 mod reply;
 mod variables;
 
-use listed::in_list;
-use model_text::writing::is_model;
-pub use plan::Motion;
+use model_text::is_model;
 pub use plan::Plan;
 pub use plan::plan_of;
 pub use reply::StepReply;
 use reply::refusal;
 use reply::stepped;
-use step_bounds::Move;
 use zone::Zone;
-use zone::lendable::is_zone;
+use zone_list::Step;
 
 // A step of a zone's list: location and queue order after it, and the tightest bounds over all reached
 // states, or at an overflow over the states that meet the guard. 13: the table or the zone can't be
 // lent; 12: the step isn't in the zone's list.
-pub fn step(model: &[u32], zone: Zone, step: Move) -> StepReply
+pub fn step(model: &[u32], zone: Zone, step: Step) -> StepReply
     ensures { λ r. ⌜ Replied (now (model .entry)) zone step r ⌝ }
 {
     if is_model(model) {
-        if is_zone(model, zone) {
-            if in_list(model, zone, step) {
-                return stepped(model, zone, step);
+        if zone::is_zone(model, zone) {
+            let home = zone.home;
+            let bounds = zone.bounds;
+            if zone_list::has(model, home, step) {
+                return stepped(model, home, bounds, step);
             }
             return refusal(12);
         }

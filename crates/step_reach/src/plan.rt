@@ -1,181 +1,129 @@
-// The plan of a zone's step: location and queue order after it, and where each variable comes from.
-ghost use mathlib.Core.List.{[], _∷_};
-ghost use Prim.Native.Nat.{_-_, _≤_};
-ghost use Rattle.meaning.specs.Zones.Steps.{goOn, finish, byEdge};
+// The plan of a step: location and queue order after it, and where each variable comes from.
+ghost use mathlib.Core.Path.{_≡_};
+ghost use mathlib.Core.Bool.{false};
+ghost use Prim.Native.Nat.{_≤_};
+ghost use Rattle.meaning.specs.Zones.Steps as S;
+ghost use Rattle.meaning.specs.Zones.Reached as Z;
 ghost use Rattle.meaning.specs.Text.ModelTable.{decode};
+ghost use Rattle.meaning.specs.Inner.Plans.{headTime};
+ghost use Rattle.meaning.specs.Inner.Sources.{stepOverflows};
 ghost use Rattle.model_table.specs.Right.{RightTable};
-ghost use Rattle.zone.specs.Stands.{zoneOf, Lendable};
-ghost use Rattle.step_bounds.specs.declared.moves.Move.the-variants as Move;
-ghost use Rattle.step_bounds.specs.Moves.{stepOf, Listed};
-ghost use Rattle.step_reach.specs.Plans.{Planned, Laid};
-use crate::order::with_new;
-use crate::order::without_head;
+ghost use Rattle.home.specs.Stands.{orderOf, homeOf, RightHome};
+ghost use Rattle.slots.specs.Stands.{Stand};
+ghost use Rattle.zone_list.specs.Steps.{stepOf, Listed};
+ghost use Rattle.zone_list.specs.declared.form.Kind.the-variants as Kind;
+ghost use Rattle.step_reach.specs.Plans.{Planned, slotsIn, LeadsTo, Keeps};
 use crate::variables::all_added;
 use crate::variables::all_from;
-use model_table::clocks;
-use model_table::released;
-use model_table::to;
-use model_table::work;
-use step_bounds::Move;
-use step_bounds::less;
-use zone::Zone;
+use home::Home;
+use slots::Slots;
+use slots::slots_of;
+use slots::slots_with;
+use slots::without_head;
+use zone_bounds::less;
+use zone_list::Kind;
+use zone_list::Step;
+use zone_list::ahead_of;
 
 // Variable a after the step is variable from[a] before it, with off[a] added.
 pub struct Plan {
-    pub location: u32,
-    pub tasks: [u32; 6],
-    pub count: u32,
+    pub home: Home,
     pub variables: usize,
     pub from: [usize; 17],
     pub off: [i32; 17],
 }
 
-// How the variables move: the edge that resets clocks, or 0; how many variables of the head are gone;
-// the position of a new job, or 0; what is added to clocks and ages, and to running sums.
-pub struct Motion {
-    pub edge: u32,
-    pub gone: usize,
-    pub at: usize,
-    pub time: i32,
-    pub sum: i32,
-}
-
-// The plan for a location and queue order after the step.
-fn laid(model: &[u32], location: u32, tasks: [u32; 6], count: u32, motion: Motion) -> Plan
+// The plan for a location after the step, the edge that resets clocks or 0, the slots of the queue after it, and what is added to
+// clocks and ages, and to running sums.
+fn laid(model: &[u32], location: u32, edge: u32, slots: Slots, time: i32, sum: i32) -> Plan
     requires { ⌜ RightTable (now model) ⌝ }
-    requires { ⌜ (count ≤ 6) × (motion .gone ≤ 2) × (motion .at ≤ 6) ⌝ }
-    ensures { λ r. ⌜ Laid (now (model .entry)) location tasks count motion r ⌝ }
+    requires { ⌜ Stand (slotsIn slots) slots ⌝ }
+    ensures { λ r. ⌜ ((h : Z.Home) (st : S.Step) → LeadsTo (now (model .entry)) h st location edge slots time sum → Planned (decode (now (model .entry))) h st r) ⌝ }
 {
-    let n = clocks(model) as usize;
-    let edge = motion.edge;
-    let gone = motion.gone;
-    let at = motion.at;
-    let variables = 1 + n + 2 * (count as usize);
-    let from = all_from(model, variables, n, edge, gone, at);
-    let off = all_added(variables, n, motion.time, motion.sum);
-    Plan {
+    let clocks = model_table::clocks(model) as usize;
+    let count = slots.count;
+    let tasks = slots.tasks;
+    let variables = home::variables(model, count);
+    let from = all_from(model, variables, clocks, edge, slots);
+    let off = all_added(variables, clocks, time, sum);
+    let home = Home {
         location,
         tasks,
-        count,
+        count: count as u32,
+    };
+    Plan {
+        home,
         variables,
         from,
         off,
     }
 }
 
-// Tick, and the head goes on: every variable but 0 grows by 1.
-fn goes_on(model: &[u32], zone: Zone) -> Plan
+// Location and queue stay, and every variable but 0 grows by so much.
+fn kept(model: &[u32], home: Home, more: i32) -> Plan
     requires { ⌜ RightTable (now model) ⌝ }
-    requires { ⌜ Lendable (decode (now model)) zone ⌝ }
-    ensures { λ r. ⌜ Planned (decode (now (model .entry))) (zoneOf zone) goOn r ⌝ }
+    requires { ⌜ RightHome (decode (now model)) home ⌝ }
+    ensures { λ r. ⌜ ((st : S.Step) → Keeps (decode (now (model .entry))) (homeOf home) st more → Planned (decode (now (model .entry))) (homeOf home) st r) ⌝ }
 {
-    let location = zone.location;
-    let tasks = zone.tasks;
-    let count = zone.count;
-    let on = Motion {
-        edge: 0,
-        gone: 0,
-        at: 0,
-        time: 1,
-        sum: 1,
-    };
-    laid(model, location, tasks, count, on)
+    let location = home.location;
+    laid(model, location, 0, slots_of(model, home), more, more)
 }
 
-// Tick, and the head finishes: its two variables are gone, and its C is taken from every other running sum.
-fn finished(model: &[u32], zone: Zone) -> Plan
+// C of the head; 1 in an empty queue.
+fn head_time(model: &[u32], home: Home) -> u32
     requires { ⌜ RightTable (now model) ⌝ }
-    requires { ⌜ Lendable (decode (now model)) zone ⌝ }
-    ensures { λ r. ⌜ Planned (decode (now (model .entry))) (zoneOf zone) finish r ⌝ }
+    requires { ⌜ home .count ≤ 6 ⌝ }
+    ensures { λ r. ⌜ (r ≡ headTime (decode (now (model .entry))) (orderOf home)) × (r ≤ 10000) ⌝ }
 {
-    let location = zone.location;
-    let tasks = zone.tasks;
-    let count = zone.count;
-    if count == 0 {
-        let on = Motion {
-            edge: 0,
-            gone: 0,
-            at: 0,
-            time: 1,
-            sum: 1,
-        };
-        return laid(model, location, tasks, count, on);
+    let tasks = home.tasks;
+    if home.count == 0 {
+        return 1;
     }
-    let sum = less(1, work(model, tasks[0]));
-    let off = Motion {
-        edge: 0,
-        gone: 2,
-        at: 0,
-        time: 1,
-        sum,
-    };
-    laid(model, location, without_head(tasks), count - 1, off)
+    model_table::work(model, tasks[0])
 }
 
-// An edge without a position: it is entered, or at an overflow everything stays.
-fn bare(model: &[u32], zone: Zone, edge: u32) -> Plan
+// Tick, and the head finishes: its slot is gone, and its C is taken from every other running sum.
+fn finished(model: &[u32], home: Home) -> Plan
     requires { ⌜ RightTable (now model) ⌝ }
-    requires { ⌜ Lendable (decode (now model)) zone ⌝ }
-    requires { ⌜ Listed (decode (now model)) (zoneOf zone) (Move.Edge edge) ⌝ }
-    ensures { λ r. ⌜ Planned (decode (now (model .entry))) (zoneOf zone) (byEdge edge []) r ⌝ }
+    requires { ⌜ RightHome (decode (now model)) home ⌝ }
+    ensures { λ r. ⌜ Planned (decode (now (model .entry))) (homeOf home) S.finish r ⌝ }
 {
-    let location = zone.location;
-    let tasks = zone.tasks;
-    let count = zone.count;
-    let target = to(model, edge);
-    if released(model, target) == 0 {
-        let resets = Motion {
-            edge,
-            gone: 0,
-            at: 0,
-            time: 0,
-            sum: 0,
-        };
-        return laid(model, target, tasks, count, resets);
+    let location = home.location;
+    let left = without_head(slots_of(model, home));
+    let sum = less(1, head_time(model, home));
+    laid(model, location, 0, left, 1, sum)
+}
+
+// An edge that doesn't overflow is entered, and its releases are put in.
+fn entered(model: &[u32], home: Home, edge: u32, step: Step) -> Plan
+    requires { ⌜ RightTable (now model) ⌝ }
+    requires { ⌜ RightHome (decode (now model)) home ⌝ }
+    requires { ⌜ Listed (decode (now model)) (homeOf home) step ⌝ }
+    requires { ⌜ step .kind ≡ Kind.Edge edge ⌝ }
+    requires { ⌜ stepOverflows (decode (now model)) (homeOf home) (stepOf step) ≡ false ⌝ }
+    ensures { λ r. ⌜ Planned (decode (now (model .entry))) (homeOf home) (stepOf step) r ⌝ }
+{
+    let location = home::target(model, edge, home.location);
+    let releases = home::released_by(model, edge);
+    let n = releases.count as usize;
+    let jobs = slots_with(model, home, releases, ahead_of(step), n);
+    laid(model, location, edge, jobs, 0, 0)
+}
+
+// The plan of a step of the zone's list; at an overflow everything stays.
+pub fn plan_of(model: &[u32], home: Home, step: Step) -> Plan
+    requires { ⌜ RightTable (now model) ⌝ }
+    requires { ⌜ RightHome (decode (now model)) home ⌝ }
+    requires { ⌜ Listed (decode (now model)) (homeOf home) step ⌝ }
+    ensures { λ r. ⌜ Planned (decode (now (model .entry))) (homeOf home) (stepOf step) r ⌝ }
+{
+    let kind = step.kind;
+    if zone_list::overflows(model, home, step) {
+        return kept(model, home, 0);
     }
-    let stays = Motion {
-        edge: 0,
-        gone: 0,
-        at: 0,
-        time: 0,
-        sum: 0,
-    };
-    laid(model, location, tasks, count, stays)
-}
-
-// An edge with the new job's position.
-fn placed(model: &[u32], zone: Zone, edge: u32, at: u32) -> Plan
-    requires { ⌜ RightTable (now model) ⌝ }
-    requires { ⌜ Lendable (decode (now model)) zone ⌝ }
-    requires { ⌜ Listed (decode (now model)) (zoneOf zone) (Move.EdgeAt edge at) ⌝ }
-    ensures { λ r. ⌜ Planned (decode (now (model .entry))) (zoneOf zone) (byEdge edge ((at - 1) ∷ [])) r ⌝ }
-{
-    let tasks = zone.tasks;
-    let count = zone.count;
-    let target = to(model, edge);
-    let new = released(model, target);
-    let order = with_new(tasks, count as usize, new, (at - 1) as usize);
-    let enters = Motion {
-        edge,
-        gone: 0,
-        at: at as usize,
-        time: 0,
-        sum: 0,
-    };
-    laid(model, target, order, count + 1, enters)
-}
-
-// The plan of a step of the zone's list.
-pub fn plan_of(model: &[u32], zone: Zone, step: Move) -> Plan
-    requires { ⌜ RightTable (now model) ⌝ }
-    requires { ⌜ Lendable (decode (now model)) zone ⌝ }
-    requires { ⌜ Listed (decode (now model)) (zoneOf zone) step ⌝ }
-    ensures { λ r. ⌜ Planned (decode (now (model .entry))) (zoneOf zone) (stepOf step) r ⌝ }
-{
-    match step {
-        Move::GoOn => goes_on(model, zone),
-        Move::Finish => finished(model, zone),
-        Move::Edge(edge) => bare(model, zone, edge),
-        Move::EdgeAt(edge, at) => placed(model, zone, edge, at),
+    match kind {
+        Kind::GoOn => kept(model, home, 1),
+        Kind::Finish => finished(model, home),
+        Kind::Edge(edge) => entered(model, home, edge, step),
     }
 }

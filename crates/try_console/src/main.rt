@@ -1,7 +1,7 @@
 // Runs the printed line on answers that no text gets and on buffers that are too short, and the fault's part on
 // texts with known faults. A bar stands behind what is shown, so that an empty part is seen.
-use console::line::Written;
-use console::told::Told;
+use console::Told;
+use console::Written;
 use machine::Job;
 use machine::State;
 use verdict::Answer;
@@ -22,7 +22,7 @@ fn show_front(bytes: &[u8], n: usize) {
 // The line, in a buffer that is long enough.
 fn show_line(told: Told) {
     let mut buffer = [46u8; 600];
-    match console::line::line(told, &mut buffer) {
+    match console::line(told, &mut buffer) {
         Written::Done(n) => {
             show_front(&buffer, n);
         }
@@ -36,7 +36,7 @@ fn show_line(told: Told) {
 // The line's length or the refusal, and what is in a buffer of eight bytes then.
 fn show_short(told: Told) {
     let mut buffer = [46u8; 8];
-    match console::line::line(told, &mut buffer) {
+    match console::line(told, &mut buffer) {
         Written::Done(n) => {
             io::print_decimal(1, n as u64);
         }
@@ -78,7 +78,7 @@ fn told(text: u32, at: usize, clocks: u32, refusal: u32, fault: Fault, count: u3
 
 // The part in which the fault of the two texts stands.
 fn show_part<'a>(model: &'a [u8], proposal: &'a [u8]) {
-    let part = console::part::fault_part(model, proposal);
+    let part = console::fault_part(model, proposal);
     io::write_all(1, part);
     io::write_all(1, b"|\n");
 }

@@ -31,7 +31,7 @@ fn with_jobs(first: Job, second: Job) -> State {
 // A queue of task 2 with 1 tick done and task 1 with 3, and a tick.
 fn lend() {
     let mut table = [0; 1092];
-    model_text::reading::read_model(b"PO 1\nCK 0\nTK 5 20 1\nTK 2 20 2\nLO 0\nEN\n", &mut table);
+    model_text::read_model(b"PO 1\nCK 0\nTK 5 20 1\nTK 2 20 2\nLO 0\nEN\n", &mut table);
     let first = Job {
         task: 2,
         done: 1,
@@ -61,7 +61,7 @@ fn lend() {
 // A queue whose jobs owe 24 and 35 and have 30 and 42 ticks left, and the release of a job with C 10 and D 100.
 fn insert_third(name: &[u8], text: &[u8]) {
     let mut table = [0; 1092];
-    model_text::reading::read_model(text, &mut table);
+    model_text::read_model(text, &mut table);
     let first = Job {
         task: 1,
         done: 6,

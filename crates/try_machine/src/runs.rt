@@ -58,7 +58,7 @@ fn play(table: &[u32], script: &[u32]) {
 // The model of a text, and a script from its start.
 pub(crate) fn run(name: &[u8], text: &[u8], script: &[u32]) {
     let mut table = [0; 1092];
-    model_text::reading::read_model(text, &mut table);
+    model_text::read_model(text, &mut table);
     print::text(name);
     play(&table, script);
 }
@@ -94,7 +94,7 @@ pub(crate) fn thousand() {
     let mut table = [0; 1092];
     let text =
         b"PO 2\nCK 2\nTK 5 12 0\nTK 4 9 0\nLO 1\nIV 1 7\nLO 2\nIV 1 8\nED 1 2\nGU 0 1 -5\nRS 1\nED 2 1\nGU 0 1 -6\nRS 1\nEN\n";
-    model_text::reading::read_model(text, &mut table);
+    model_text::read_model(text, &mut table);
     print::text(b"a thousand steps\n");
     print::show(thousand_of(&table));
 }

@@ -2,8 +2,8 @@
 // for each what the model's reader answers: OK, or RF with the refusal number and its place. A text
 // that is read is written back, and has to be the same bytes.
 ghost use Prim.Native.Nat.{_<_};
-use model_text::reading::Read;
-use model_text::writing::Written;
+use model_text::Read;
+use model_text::Written;
 
 fn print_refusal(number: u32, place: usize) {
     io::write_all(1, b"RF ");
@@ -28,7 +28,7 @@ fn print_same(written: &[u8], n: usize, text: &[u8]) {
 
 fn write_back(table: &[u32], text: &[u8]) {
     let mut buffer = [0u8; 32768];
-    match model_text::writing::write_model(table, &mut buffer) {
+    match model_text::write_model(table, &mut buffer) {
         Written::Refused(number, place) => print_refusal(number, place),
         Written::Done(n) => print_same(&buffer, n, text),
     }
@@ -36,7 +36,7 @@ fn write_back(table: &[u32], text: &[u8]) {
 
 fn show(text: &[u8]) {
     let mut table = [0u32; 1092];
-    match model_text::reading::read_model(text, &mut table) {
+    match model_text::read_model(text, &mut table) {
         Read::Refused(number, place) => print_refusal(number, place),
         Read::Done => write_back(&table, text),
     }
@@ -86,16 +86,16 @@ fn show_next(room: &mut [u8]) -> bool {
 fn show_rooms() {
     let text = b"PO 2\nCK 0\nTK 1 1 0\nLO 0\nEN\n";
     let mut small = [0u32; 1091];
-    if let Read::Refused(number, place) = model_text::reading::read_model(text, &mut small) {
+    if let Read::Refused(number, place) = model_text::read_model(text, &mut small) {
         print_refusal(number, place);
     }
     let mut table = [0u32; 1092];
     let mut buffer = [0u8; 26];
-    if let Written::Refused(number, place) = model_text::writing::write_model(&table, &mut buffer) {
+    if let Written::Refused(number, place) = model_text::write_model(&table, &mut buffer) {
         print_refusal(number, place);
     }
-    model_text::reading::read_model(text, &mut table);
-    if let Written::Refused(number, place) = model_text::writing::write_model(&table, &mut buffer) {
+    model_text::read_model(text, &mut table);
+    if let Written::Refused(number, place) = model_text::write_model(&table, &mut buffer) {
         print_refusal(number, place);
     }
 }

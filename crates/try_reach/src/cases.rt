@@ -1,13 +1,15 @@
 // The table, the zone and the step of a case.
 use super::input::next_number;
-use step_bounds::Move;
-use step_bounds::less;
+use home::Home;
 use zone::Zone;
+use zone_bounds::less;
+use zone_list::Kind;
+use zone_list::Step;
 
 // The table of a model's text, with the change that comes next: it may then be one that no text gives.
 pub(crate) fn next_table(text: &[u8]) -> [u32; 1092] {
     let mut table = [0u32; 1092];
-    model_text::reading::read_model(text, &mut table);
+    model_text::read_model(text, &mut table);
     let cell = next_number() as usize;
     let value = next_number();
     if cell < 1092 {
@@ -46,25 +48,34 @@ pub(crate) fn next_zone() -> Zone {
     let location = next_number();
     let count = next_number();
     let tasks = next_tasks();
-    let bounds = next_bounds();
-    Zone {
+    let home = Home {
         location,
         tasks,
         count,
-        bounds,
+    };
+    let bounds = next_bounds();
+    Zone { home, bounds }
+}
+
+// A step with the first of so many positions.
+fn step_of(kind: Kind, position: u32, count: u32) -> Step {
+    Step {
+        kind,
+        positions: [position, 0, 0, 0],
+        count,
     }
 }
 
 // Kind 1 is a tick and the head goes on, 2 a tick and it finishes, 3 an edge without a position, any
 // other an edge with one.
-pub(crate) fn next_step() -> Move {
+pub(crate) fn next_step() -> Step {
     let kind = next_number();
     let edge = next_number();
     let position = next_number();
     match kind {
-        1 => Move::GoOn,
-        2 => Move::Finish,
-        3 => Move::Edge(edge),
-        _ => Move::EdgeAt(edge, position),
+        1 => step_of(Kind::GoOn, 0, 0),
+        2 => step_of(Kind::Finish, 0, 0),
+        3 => step_of(Kind::Edge(edge), 0, 0),
+        _ => step_of(Kind::Edge(edge), position, 1),
     }
 }

@@ -120,13 +120,14 @@ fn variables(refusal: u32, empty: bool, clocks: usize, count: u32) -> usize
 
 // The reply, with the cells that have to be 0 as well.
 pub(crate) fn show(reply: StepReply, clocks: usize) {
-    let tasks = reply.tasks;
+    let home = reply.home;
+    let tasks = home.tasks;
     let m = reply.bounds;
-    let n = variables(reply.refusal, reply.empty, clocks, reply.count);
+    let n = variables(reply.refusal, reply.empty, clocks, home.count);
     outcome(reply.refusal, reply.empty);
     text(b" /");
-    number(reply.location);
-    number(reply.count);
+    number(home.location);
+    number(home.count);
     queue(tasks);
     rows(&m, n);
     if stray(&m, n) {

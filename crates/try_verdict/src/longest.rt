@@ -59,7 +59,7 @@ fn put_bounds(zones: &mut [u32], many: usize) {
 fn show_long(many: usize) {
     let mut model = [0u32; 1092];
     let mut zones = [0u32; 47023];
-    model_text::reading::read_model(
+    model_text::read_model(
         b"PO 2\nCK 1\nTK 1 9 0\nTK 1 9 0\nTK 1 9 0\nTK 1 9 0\nTK 1 9 0\nLO 0\nEN\n",
         &mut model,
     );

@@ -7,8 +7,8 @@ mod print;
 mod tables;
 
 use input::next_text;
-use model_text::reading::Read as ModelRead;
-use zone_text::reading::Read;
+use model_text::Read as ModelRead;
+use zone_text::Read;
 
 // The check's answer to two tables.
 pub(crate) fn show_check(model: &[u32], zones: &[u32]) {
@@ -18,7 +18,7 @@ pub(crate) fn show_check(model: &[u32], zones: &[u32]) {
 
 fn show_proposal(model: &[u32], text: &[u8]) {
     let mut zones = [0u32; 47023];
-    match zone_text::reading::read_proposal(model, text, &mut zones) {
+    match zone_text::read_proposal(model, text, &mut zones) {
         Read::Refused(number, place) => print::refusal(2, number, place),
         Read::Done => show_check(model, &zones),
     }
@@ -26,7 +26,7 @@ fn show_proposal(model: &[u32], text: &[u8]) {
 
 fn show(model_text: &[u8], text: &[u8]) {
     let mut model = [0u32; 1092];
-    match model_text::reading::read_model(model_text, &mut model) {
+    match model_text::read_model(model_text, &mut model) {
         ModelRead::Refused(number, place) => print::refusal(1, number, place),
         ModelRead::Done => show_proposal(&model, text),
     }

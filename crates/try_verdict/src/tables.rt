@@ -4,7 +4,7 @@ use super::show_check;
 
 // Model A into a table.
 fn read_model_a(model: &mut [u32]) {
-    model_text::reading::read_model(
+    model_text::read_model(
         b"PO 2\nCK 1\nTK 2 4 0\nLO 1\nIV 1 5\nED 1 1\nGU 0 1 -5\nRS 1\nEN\n",
         model,
     );
@@ -12,7 +12,7 @@ fn read_model_a(model: &mut [u32]) {
 
 // Proposal A into a table.
 fn read_zones_a(model: &[u32], zones: &mut [u32]) {
-    zone_text::reading::read_proposal(
+    zone_text::read_proposal(
         model,
         b"ZN 1 1\nBD 1 2 0\nBD 1 3 0\nBD 2 1 0\nBD 3 1 0\nGO 1 2 0\nZN 1\nBD 0 1 -2\nBD 1 0 5\nGO 2 0 1\nEN\n",
         zones,

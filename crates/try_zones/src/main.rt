@@ -3,9 +3,9 @@
 // 1 for the model or 2 for the proposal, the refusal number and its place. A proposal that is read is
 // written back, and has to be the same bytes.
 ghost use Prim.Native.Nat.{_<_};
-use model_text::reading::Read as ModelRead;
-use zone_text::reading::Read;
-use zone_text::writing::Written;
+use model_text::Read as ModelRead;
+use zone_text::Read;
+use zone_text::Written;
 
 fn print_refusal(which: u64, number: u32, place: usize) {
     io::write_all(1, b"RF ");
@@ -32,7 +32,7 @@ fn print_same(written: &[u8], n: usize, text: &[u8]) {
 
 fn write_back(model: &[u32], table: &[u32], text: &[u8]) {
     let mut buffer = [0u8; 65535];
-    match zone_text::writing::write_proposal(model, table, &mut buffer) {
+    match zone_text::write_proposal(model, table, &mut buffer) {
         Written::Refused(number, place) => print_refusal(2, number, place),
         Written::Done(n) => print_same(&buffer, n, text),
     }
@@ -40,7 +40,7 @@ fn write_back(model: &[u32], table: &[u32], text: &[u8]) {
 
 fn show_proposal(model: &[u32], text: &[u8]) {
     let mut table = [0u32; 47023];
-    match zone_text::reading::read_proposal(model, text, &mut table) {
+    match zone_text::read_proposal(model, text, &mut table) {
         Read::Refused(number, place) => print_refusal(2, number, place),
         Read::Done => write_back(model, &table, text),
     }
@@ -48,7 +48,7 @@ fn show_proposal(model: &[u32], text: &[u8]) {
 
 fn show(model_text: &[u8], text: &[u8]) {
     let mut model = [0u32; 1092];
-    match model_text::reading::read_model(model_text, &mut model) {
+    match model_text::read_model(model_text, &mut model) {
         ModelRead::Refused(number, place) => print_refusal(1, number, place),
         ModelRead::Done => show_proposal(&model, text),
     }
@@ -95,17 +95,13 @@ fn next_text(room: &mut [u8]) -> usize {
 }
 
 fn show_read(model: &[u32], text: &[u8], table: &mut [u32]) {
-    if let Read::Refused(number, place) = zone_text::reading::read_proposal(model, text, table) {
+    if let Read::Refused(number, place) = zone_text::read_proposal(model, text, table) {
         print_refusal(2, number, place);
     }
 }
 
 fn show_written(model: &[u32], table: &[u32], buffer: &mut [u8]) {
-    if let Written::Refused(number, place) = zone_text::writing::write_proposal(
-        model,
-        table,
-        buffer,
-    ) {
+    if let Written::Refused(number, place) = zone_text::write_proposal(model, table, buffer) {
         print_refusal(2, number, place);
     }
 }
@@ -119,7 +115,7 @@ fn show_rooms() {
     let mut table = [0u32; 47023];
     let mut buffer = [0u8; 14];
     show_read(&model, text, &mut small);
-    model_text::reading::read_model(b"PO 2\nCK 0\nTK 1 1 0\nLO 0\nEN\n", &mut model);
+    model_text::read_model(b"PO 2\nCK 0\nTK 1 1 0\nLO 0\nEN\n", &mut model);
     show_read(&model, text, &mut small);
     show_written(&model, &table, &mut buffer);
     show_read(&model, text, &mut table);

@@ -1,17 +1,13 @@
 -- The bounds of a claimed zone where they stand in the proposal's table: a state breaks one there exactly if it breaks the zone's.
 -- Assumes nothing.
 use mathlib.Core.Path.{_≡_, refl, sym, _∙_, ap, subst}
-use mathlib.Core.Bool.{true}
 use mathlib.Core.List.{List, [], _∷_, List·Memᴰ}
-use mathlib.Core.Option.{some}
-use mathlib.Core.Logic.{_↔_}
 use Prim.Native.Nat.{ℕ, suc, _+_, _-_, _*_, _/_, _%_, _≤_, _<_}
 use native.Mathlib.Omega.{arith}
 use lib.IntN.{ℤ}
-use lib.ListN.{length, getD}
+use lib.ListN.{getD}
 use borrow.Author.Tests.{lt-ltb, ltb-true}
 use Rattle.meaning.specs.Numbers.{over, under}
-use Rattle.meaning.specs.Lists.{nth1}
 use Rattle.meaning.specs.Model.{Bound, Model}
 use Rattle.meaning.specs.Machine.State.{State}
 use Rattle.meaning.specs.Zones.Variables.{var, variables}
@@ -22,10 +18,10 @@ use Rattle.meaning.specs.Text.RightModel.{Each, RightBound, RightModel}
 use Rattle.meaning.specs.Text.ModelTable.{there}
 use Rattle.meaning.specs.Text.ProposalReader.{Given}
 use Rattle.meaning.specs.Text.ProposalTable.{boundsSlot, orderIn, boundsIn, zoneIn}
+use Rattle.meaning.specs.Inner.Bounds.{bound, Ranged}
 use Rattle.meaning.proofs.Numbers.{within-false, within-break}
 use Rattle.meaning.proofs.Text.Collects.{mem-collect, mem-collect-inv}
 use Rattle.meaning.proofs.Text.BoundLaws.{over-of, under-of}
-use Rattle.meaning.proofs.Exact.Bounds.{bound, Ranged}
 use Rattle.meaning.proofs.Exact.Faulty.{Writes}
 use Rattle.bounds.specs.Claims.{cell, Breaks, Cells}
 use Rattle.zone_table.specs.Sound.{zonesIn}
@@ -34,7 +30,7 @@ use Rattle.zone_table.proofs.ZoneParts.{given-is-sound, given-small}
 
 -- where the bounds of zone n stand
 abbrev pub startOf : ℕ → ℕ
-startOf n = 384 + 289 * (n - 1)
+startOf n = boundsSlot (n - 1)
 
 -- the bound that a cell holds
 abbrev pub kept : ℕ → ℤ

@@ -1,21 +1,20 @@
 -- From what the functions find of a step's matrix to what they say of its obligation, kind by kind.
 -- Assumes nothing.
 use mathlib.Core.Path.{_≡_, refl, sym, _∙_, ap, subst}
-use mathlib.Core.Logic.{_⊎_, inl, inr, _≢_}
+use mathlib.Core.Logic.{inl, inr, _≢_}
 use mathlib.Core.Bool.{Bool, true, false}
 use mathlib.Core.List.{List}
-use mathlib.Core.Option.{Option, none, some}
-use Prim.Native.Nat.{ℕ, zero, suc, _+_, _-_, _*_, _≤_, _<_}
+use mathlib.Core.Option.{Option, some}
+use Prim.Native.Nat.{ℕ, zero, suc, _+_, _-_, _≤_, _<_}
 use native.Mathlib.Omega.{arith}
-use native.Mathlib.Decide.{decLt}
 use lib.IntN.{ℤ, pos, _+ℤ_}
-use lib.ListN.{length, getD}
-use Rattle.meaning.specs.Numbers.{over, under}
+use lib.ListN.{getD}
+use Rattle.meaning.specs.Numbers.{over}
 use Rattle.meaning.specs.Lists.{nth1}
 use Rattle.meaning.specs.Model.{Model, taskAt}
 use Rattle.meaning.specs.Zones.Variables.{var, variables}
 use Rattle.meaning.specs.Zones.Zone.{Zone, Proposal}
-use Rattle.meaning.specs.Zones.Reached.{Home, homeOfZone, ReachedBy}
+use Rattle.meaning.specs.Zones.Reached.{Home, homeOfZone}
 use Rattle.meaning.specs.Check.Obligations.{Follow, follows}
 use Rattle.meaning.specs.Check.Faults as F
 use Rattle.meaning.specs.Check.Faults.{BreaksZone, Breaks}
@@ -24,17 +23,19 @@ use Rattle.meaning.specs.Text.ProposalReader.{Given}
 use Rattle.meaning.specs.Text.ProposalTable.{zoneIn, decode}
 use Rattle.meaning.proofs.Tests.{never}
 use Rattle.meaning.specs.Text.Ranges.{boundMost}
+use Rattle.meaning.specs.Inner.Bounds.{Ranged}
+use Rattle.meaning.specs.Inner.Slots.{ageAt}
+use Rattle.meaning.specs.Inner.StepBounds.{RangedModel}
+use Rattle.meaning.specs.Inner.Sources.{stepOverflows, sourceBounds, planAt, homeAt, movedState}
+use Rattle.meaning.specs.Inner.Smallest.{ApartBefore}
 use Rattle.meaning.proofs.Text.BoundLaws.{over-of, under-of}
-use Rattle.meaning.proofs.Check.Faults.{RowByRow}
 use Rattle.meaning.proofs.Numbers.{sum-parts, shift-parts}
-use Rattle.meaning.proofs.Exact.Bounds.{Ranged, ranged-mem}
-use Rattle.meaning.proofs.Exact.Moves as Moves
-use Rattle.meaning.proofs.Exact.StepBounds.{RangedModel}
-use Rattle.meaning.proofs.Exact.Reached.{stepOverflows, sourceBounds, Source, planAt, homeAt, shown-leads}
-use Rattle.meaning.proofs.Exact.Smallest.{movedState, ApartBefore}
+use Rattle.meaning.proofs.Exact.Bounds.{ranged-mem}
+use Rattle.meaning.proofs.Machine.Proper.{right-formed}
+use Rattle.meaning.specs.Inner.Plans as Moves
+use Rattle.meaning.proofs.Exact.Reached.{shown-leads}
 use Rattle.meaning.proofs.Exact.Solved.{source-iff, source-none}
-use Rattle.meaning.proofs.Exact.Late.{ageAt}
-use Rattle.meaning.proofs.Exact.Faulty.{OnTime, Kept, Clear, LateBefore, none-holds, on-time-of, on-time-all, over-fails-moved, late-fails, unclaimed-fails, elsewhere-fails, breaks-fails, not-elsewhere-at, clear-holds}
+use Rattle.meaning.proofs.Exact.Faulty.{OnTime, Kept, Clear, none-holds, on-time-of, on-time-all, over-fails-moved, late-fails, unclaimed-fails, elsewhere-fails, breaks-fails, not-elsewhere-at, clear-holds}
 use Rattle.bounds.specs.Matrix.{ent, at, Sol}
 use Rattle.bounds.specs.Images as I
 use Rattle.bounds.specs.Claims as C
@@ -43,11 +44,11 @@ use Rattle.bounds.specs.Results.{Met, FirstBroken}
 use Rattle.bounds.specs.declared.tightening.Tight.{Tight}
 use Rattle.machine.specs.declared.State.{State}
 use Rattle.machine.specs.Promise.{noState}
-use Rattle.step_bounds.specs.Narrowed.{Narrowed}
+use Rattle.home.specs.Stands.{orderOf}
+use Rattle.zone_bounds.specs.Narrowed.{Narrowed}
 use Rattle.step_bounds.proofs.RangeLaws.{right-ranged}
 use Rattle.step_reach.specs.declared.plan.Plan.{Plan}
-use Rattle.step_reach.specs.Plans as P
-use Rattle.step_reach.proofs.ReplyLaws.{many-is, order-is, solves, source, image, image-back}
+use Rattle.step_reach.proofs.ReplyLaws.{many-is, source, image, image-back}
 use Rattle.zone_table.specs.Sound.{zonesIn}
 use Rattle.zone_table.proofs.ZoneParts.{zone-is}
 use Rattle.shown.specs.Drawn.{Drawn, ApartBy, SmallestIs, SmallestApart, FirstLate}
@@ -55,7 +56,6 @@ use Rattle.verdict.specs.declared.answer.Fault.the-variants.{Nothing, La
 use Rattle.verdict.specs.declared.answer.Fault.the-variants as W
 use Rattle.verdict.specs.Judged.{Judged}
 use Rattle.verdict.proofs.FoundLaws.{found, judged-holds, judged-fails}
-use Rattle.verdict.proofs.ModelLaws.{right-formed}
 use Rattle.verdict.proofs.ClaimLaws.{startOf, kept, zone-ranged, writes-at, broken-there}
 
 module _ (m : Model) (w : RightModel m) (p : Proposal) (f : Follow) where
@@ -141,7 +141,7 @@ module _ (m : Model) (w : RightModel m) (p : Proposal) (f : Follow) where
 -- ── kind 5, where the bounds of the claimed zone stand in the proposal's table ─────────────────
 
 module _ (m : Model) (w : RightModel m) (u : List ℕ) (g : Given m u) (f : Follow) (a : 1 ≤ f .claim) (b : f .claim ≤ zonesIn u) (t : Tight) (l : Plan)
-    (d : Drawn m (f .zone) (f .step) t l) (after : variables m (P.homeOf l .order) ≤ 17) where
+    (d : Drawn m (f .zone) (f .step) t l) (after : variables m (orderOf (l .home)) ≤ 17) where
   ranged : RangedModel m
   ranged = right-ranged m w
 

@@ -1,8 +1,5 @@
-pub mod ModelLaws
 pub mod FoundLaws
 pub mod ClaimLaws
-pub mod HomeLaws
-pub mod OverflowLaws
 pub mod JudgeLaws
 pub mod KindLaws
 pub mod DrawLaws

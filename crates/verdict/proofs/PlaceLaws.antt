@@ -1,37 +1,38 @@
 -- The obligation at a place of a zone: its step is that of the zone's list, and its claim that of the table.
 -- Assumes nothing.
 use mathlib.Core.Path.{_≡_, sym, _∙_, ap, subst}
-use mathlib.Core.List.{List, [], _∷_, map, List·Memᴰ}
+use mathlib.Core.List.{List, [], _∷_}
 use mathlib.Core.Option.{some}
-use Prim.Native.Nat.{ℕ, zero, suc, _+_, _-_, _*_, _≤_}
+use Prim.Native.Nat.{ℕ, zero, suc, _+_, _-_, _≤_}
 use native.Mathlib.Omega.{arith}
-use lib.ListN.{length, getD, getElem?}
+use lib.ListN.{length, getElem?}
 use Rattle.meaning.specs.Lists.{nth1}
 use Rattle.meaning.specs.Model.{Model}
 use Rattle.meaning.specs.Zones.Zone as Z
-use Rattle.meaning.specs.Zones.Zone.{widest}
 use Rattle.meaning.specs.Zones.Steps.{Step, steps}
+use Rattle.meaning.specs.Zones.Reached as R
 use Rattle.meaning.specs.Check.Obligations.{Obligation, claimed}
 use Rattle.meaning.specs.Text.RightModel.{Each, RightModel}
 use Rattle.meaning.specs.Text.RightProposal.{RightZone}
-use Rattle.meaning.specs.Text.ModelReader.{words}
 use Rattle.meaning.specs.Text.ProposalReader.{Given}
 use Rattle.meaning.specs.Text.ProposalTable.{zoneIn, decode}
 use Rattle.meaning.proofs.Text.Keyed.{each-nth}
 use Rattle.meaning.proofs.Text.ProposalTheorems.{proposal-given-right}
-use Rattle.steps.specs.Counted.{numbersIn, headIn}
-use Rattle.step_bounds.specs.Moves.{stepOf, Listed}
-use Rattle.step_bounds.specs.declared.moves.Move.{Move}
-use Rattle.listing.specs.StepAt.{StepAt}
-use Rattle.listing.proofs.StepLaws.{step-at-listed}
+use Rattle.meaning.specs.Inner.Slots.{zoneBounds, RangedZone}
+use Rattle.bounds.specs.declared.tightening.Tight.{Tight}
+use Rattle.home.specs.declared.Home.{Home}
+use Rattle.home.specs.Stands.{homeOf}
+use Rattle.zone_list.specs.declared.form.Step as L
+use Rattle.zone_list.specs.Steps.{stepOf, listAt, StepAt}
+use Rattle.zone_bounds.specs.Narrowed.{Narrowed}
 use Rattle.zone.specs.declared.Zone.{Zone}
 use Rattle.zone.specs.Stands.{zoneOf}
-use Rattle.zone_table.specs.Sound.{zonesIn, queueIn, SoundZone}
-use Rattle.zone_table.specs.Read.{claimsAt, claimAt, ZoneRead, withoutClaims}
-use Rattle.zone_table.proofs.TestLaws.{order-row}
-use Rattle.zone_table.proofs.ZoneParts.{given-is-sound, zone-is, claim-is, read-is}
+use Rattle.zone.proofs.LendableLaws.{lent-ranged}
+use Rattle.zone_table.specs.Sound.{zonesIn, SoundZone}
+use Rattle.zone_table.specs.Read.{claimsAt, claimAt, ZoneRead}
+use Rattle.zone_table.proofs.ZoneParts.{given-is-sound, zone-is, claim-is, home-at, home-right, read-is, read-lendable}
 use Rattle.verdict.specs.declared.answer.Found.{Found}
-use Rattle.verdict.specs.Judged.{following, AtPlace, Judged}
+use Rattle.verdict.specs.Judged.{following, AtPlace, ClosedOf, Judged}
 
 -- ---- the list of a zone's obligations
 
@@ -85,37 +86,30 @@ module _ (m : Model) (r : RightModel m) (t : List ℕ) (g : Given m t) (n : ℕ)
   pub claim-most : (x : ℕ) → 1 ≤ x → x ≤ claimsAt t n → claimAt t n x ≤ zonesIn t
   claim-most x c d = nth1-each (λ (v : ℕ). v ≤ zonesIn t) (zoneIn t k .claims) x (claimAt t n x) (right-zone .claims .each) (claim-is m r t g n a b x c d)
 
-  -- the head of the zone has its steps
-  pub head-steps : (q : ℕ) → q ≡ queueIn t k → steps m (headIn t k q) ≡ steps m (zoneIn t k)
-  unfolding zoneIn numbersIn
-  head-steps q e =
-      ap (λ (o : List ℕ). steps m (widest (getD t (8 * k) 0 - 1) o))
-      (ap (λ (i : ℕ). map (λ (x : ℕ). x - 1) (words t (8 * k + 1) i)) e ∙ sym (order-row t k m (sound .order .queue)))
-
-  module _ (z : Zone) (w : ZoneRead t n z) (x : ℕ) (c : 1 ≤ x) (d : x ≤ claimsAt t n) where
-    -- a place of the zone is one of its head's list
-    pub place-most : x ≤ length (steps m (headIn t k (z .count)))
-    place-most = omega (arith, claims-many, ap length (head-steps (z .count) (w .count)))
-
-    module _ (s : Move) (v : StepAt m (headIn t k (z .count)) x s) where
-      step-is : nth1 (steps m (zoneIn t k)) x ≡ some (stepOf s)
-      step-is = subst (λ (l : List Step). nth1 l x ≡ some (stepOf s)) (head-steps (z .count) (w .count)) (v .is)
-
-      -- the step is one of the zone's
-      pub place-listed : Listed m (zoneOf z) s
-      place-listed = record {
-        numbered = v .numbered;
-        here =
-            subst (λ (y : Z.Zone). List·Memᴰ (stepOf s) (steps m y)) (sym (read-is m r t g n a b z w))
-            (subst (List·Memᴰ (stepOf s)) (head-steps (z .count) (w .count)) (step-at-listed m (headIn t k (z .count)) x s v .here));
+  -- the matrix of the zone by value is that of the zone of the proposal
+  pub read-closed : (z : Zone) → ZoneRead t n z → (c : Tight) → Narrowed (zoneBounds m (zoneOf z)) c → ClosedOf m (zoneIn t k) (z .home) c
+  read-closed z w c v =
+      let e = read-is m r t g n a b z w in
+      let q = subst (RangedZone m) e (lent-ranged m z (read-lendable m r t g n a b z w)) in
+      record {
+        right = home-right m r t g n a b (z .home) (w .home);
+        home = home-at m r t g n a b (z .home) (w .home);
+        ranged = record { bounds = q .bounds; fit = q .fit };
+        narrowed = subst (λ (y : Z.Zone). Narrowed (zoneBounds m y) c) e v;
       }
 
-      -- what is found of the step with its claim is found of the obligation there
-      pub place-judged : (f : Found) (y : ℕ) → y ≡ claimAt t n x
-          → ((i j : ℕ) (u : Z.Zone) → zoneOf z ≡ withoutClaims u → Judged m (decode t) (following i j u (stepOf s) y) f)
-          → (o : Obligation) → AtPlace m n (zoneIn t k) x o → Judged m (decode t) o f
-      place-judged f y e h o q =
-          let p : following n x (zoneIn t k) (stepOf s) (claimAt t n x) ≡ o =
-          some-once _ _ (sym (place-is m n (zoneIn t k) x (stepOf s) (claimAt t n x) step-is (claim-is m r t g n a b x c d)) ∙ q) in
-          subst (λ (u : Obligation). Judged m (decode t) u f) p
-          (subst (λ (i : ℕ). Judged m (decode t) (following n x (zoneIn t k) (stepOf s) i) f) e (h n x (zoneIn t k) (read-is m r t g n a b z w)))
+  module _ (h : Home) (closed : Tight) (w : ClosedOf m (zoneIn t k) h closed) (x : ℕ) (c : 1 ≤ x) (d : x ≤ claimsAt t n) where
+    -- a place of the zone is one of the list of its location and queue order
+    pub place-most : x ≤ length (listAt m (homeOf h))
+    place-most = omega (arith, claims-many, ap (λ (o : R.Home). length (listAt m o)) (w .home))
+
+    -- what is found of the step with its claim is found of the obligation there
+    pub place-judged : (s : L.Step) → StepAt m (homeOf h) x s → (f : Found) (y : ℕ) → y ≡ claimAt t n x
+        → ((i j : ℕ) (u : Z.Zone) → ClosedOf m u h closed → Judged m (decode t) (following i j u (stepOf s) y) f)
+        → (o : Obligation) → AtPlace m n (zoneIn t k) x o → Judged m (decode t) o f
+    place-judged s v f y e j o q =
+        let i : nth1 (steps m (zoneIn t k)) x ≡ some (stepOf s) = subst (λ (u : R.Home). nth1 (listAt m u) x ≡ some (stepOf s)) (w .home) (v .is) in
+        let p : following n x (zoneIn t k) (stepOf s) (claimAt t n x) ≡ o =
+        some-once _ _ (sym (place-is m n (zoneIn t k) x (stepOf s) (claimAt t n x) i (claim-is m r t g n a b x c d)) ∙ q) in
+        subst (λ (u : Obligation). Judged m (decode t) u f) p
+        (subst (λ (i : ℕ). Judged m (decode t) (following n x (zoneIn t k) (stepOf s) i) f) e (j n x (zoneIn t k) w))

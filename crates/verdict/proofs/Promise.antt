@@ -14,12 +14,12 @@ use Rattle.meaning.specs.Text.ModelTable.{decode}
 use Rattle.meaning.specs.Text.ProposalTable as table
 use Rattle.meaning.proofs.Check.DemandThree.{demand-three}
 use Rattle.verdict.specs.declared.answer.Answer.{Answer}
-use Rattle.verdict.specs.Answers.{faultOf, Usable, Answered, unusable, right}
+use Rattle.verdict.specs.Answers.{faultOf, BothGiven, Answered, unusable, right}
 use Rattle.verdict.proofs.FoundLaws.{none-some}
 
 -- the tables are usable, every obligation holds, and the answer's number is how many they are
 pub record Accepted (t u : List ℕ) (r : Answer) : Type 0 where
-  pub usable : Usable t u
+  pub usable : BothGiven t u
   pub accepts : Accepts (decode t) (table.decode u)
   pub number : r .number ≡ length (obligations (decode t) (table.decode u))
 

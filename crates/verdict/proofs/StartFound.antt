@@ -1,46 +1,46 @@
 -- What `try_start` reads and calls, as obligation 1 needs it.
 -- Assumes nothing.
-use mathlib.Core.Path.{_≡_, refl, sym, _∙_, ap}
-use mathlib.Core.Logic.{_⊎_, inl, inr, _↔_}
+use mathlib.Core.Path.{_≡_, refl, sym, _∙_, ap, subst}
+use mathlib.Core.Logic.{_↔_}
 use mathlib.Core.Bool.{Bool, true, false, not}
-use mathlib.Core.List.{List, [], _∷_}
-use Prim.Native.Nat.{ℕ, _+_, _*_, _≤_}
+use mathlib.Core.List.{List, map}
+use Prim.Native.Nat.{ℕ, suc, _+_, _≤_}
 use native.Mathlib.Omega.{arith}
 use lib.IntN.{pos}
-use lib.ListN.{length, take, replicate}
-use lib.Seq.{length-take-le}
+use lib.ListN.{replicate}
 use borrow.Author.Tests.{not-true, not-false}
+use Rattle.meaning.specs.Model.{Model}
 use Rattle.meaning.specs.Machine.Run.{start}
 use Rattle.meaning.specs.Zones.Variables.{variables}
-use Rattle.meaning.specs.Zones.Reached.{Home, homeOf, homeOfZone}
+use Rattle.meaning.specs.Zones.Reached as Z
+use Rattle.meaning.specs.Zones.Reached.{homeOfZone}
 use Rattle.meaning.specs.Check.Obligations.{starts}
 use Rattle.meaning.specs.Text.RightModel.{RightModel}
-use Rattle.meaning.specs.Text.ModelTable.{clocks, decode}
+use Rattle.meaning.specs.Text.ModelTable.{decode}
 use Rattle.meaning.specs.Text.ProposalReader as reader
 use Rattle.meaning.specs.Text.ProposalTable as table
 use Rattle.meaning.specs.Text.ProposalTable.{zoneIn}
 use Rattle.meaning.proofs.Tests.{never}
-use Rattle.meaning.proofs.Zones.Home.{mkHome}
 use Rattle.model_table.specs.Right.{RightTable}
-use Rattle.model_table.specs.Parts.{releasedIn}
-use Rattle.model_table.proofs.PartLaws.{released-is, clocks-is}
+use Rattle.home.specs.declared.Home.{Home}
+use Rattle.home.specs.Stands.{homeOf}
 use Rattle.bounds.specs.Claims.{Cells}
 use Rattle.bounds.specs.Results.{FirstBroken}
 use Rattle.machine.specs.declared.State.{State}
 use Rattle.machine.specs.declared.Reply.{Reply}
 use Rattle.machine.specs.declared.Outcome.{Outcome}
 use Rattle.machine.specs.declared.Outcome.the-variants.{Went, Missed, Overflowed, Refused}
-use Rattle.machine.specs.Stands.{held}
+use Rattle.machine.specs.Stands.{taskOf, held}
 use Rattle.machine.specs.Promise.{noState, Said, went, missed, overflow, refused, said, saidBy}
-use Rattle.zone_table.proofs.ZoneParts.{given-is-sound}
+use Rattle.zone_table.specs.Sound.{zonesIn, queueIn}
+use Rattle.zone_table.specs.Read.{HomeRead}
+use Rattle.zone_table.proofs.ZoneParts.{given-is-sound, home-at, home-right}
 use Rattle.verdict.specs.declared.answer.Fault.the-variants.{Nothing, Elsewhere}
 use Rattle.verdict.specs.declared.answer.Fault.the-variants as W
 use Rattle.verdict.specs.Judged.{Judged}
-use Rattle.verdict.specs.Tests.{SameHome}
 use Rattle.verdict.proofs.FoundLaws.{found}
-use Rattle.verdict.proofs.ClaimLaws.{cells-of}
-use Rattle.verdict.proofs.HomeLaws.{same-home-iff}
-use Rattle.verdict.proofs.StartLaws.{start-home, judged-start-elsewhere, judged-start-breaks, judged-start-holds}
+use Rattle.verdict.proofs.ClaimLaws.{startOf, cells-of}
+use Rattle.verdict.proofs.StartLaws.{start-small, start-home, start-many, judged-start-elsewhere, judged-start-breaks, judged-start-holds}
 
 -- ---- the state of the machine's reply
 
@@ -59,69 +59,59 @@ said-state (Refused n) s = refl
 pub started-state : (t : List ℕ) (r : Reply) → said r ≡ went (held (start (decode t))) → r .state ≡ held (start (decode t))
 started-state t r w = sym (said-state (r .outcome) (r .state)) ∙ ap stateSaid w
 
--- ---- the queue of the start
-
--- its tasks, padded to an array of six
-abbrev pub tasksOf : ℕ → List ℕ
-tasksOf new = new ∷ 0 ∷ 0 ∷ 0 ∷ 0 ∷ 0 ∷ []
-
--- how many they are
-pub record Counted (new count : ℕ) : Type 0 where
-  pub few : count ≤ 1
-  pub nothing : new ≡ 0 → count ≡ 0
-  pub one : (new ≡ 0 → ⊥) → count ≡ 1
-
-pub counted-by : {A B : Type 0} (new count : ℕ) → (A → new ≡ 0) → (B → new ≡ 0 → ⊥) → (A × (count ≡ 0)) ⊎ (B × (count ≡ 1)) → Counted new count
-counted-by new count a b (inl e) = record { few = omega (arith, e .1); nothing = λ _. e .1; one = λ h. absurd (h (a (e .0))) }
-counted-by new count a b (inr e) = record { few = omega (arith, e .1); nothing = λ h. absurd (b (e .0) h); one = λ _. e .1 }
+-- ---- what is found
 
 module _ (t : List ℕ) (g : RightTable t) (u : List ℕ) (h : reader.Given (decode t) u) where
-  right : RightModel (decode t)
+  abbrev m : Model
+  m = decode t
+
+  right : RightModel m
   right = g .right
 
-  some-zone : 1 ≤ length (table.decode u .zones)
-  some-zone = given-is-sound (decode t) right u h .some
+  some-zone : 1 ≤ zonesIn u
+  some-zone = given-is-sound m right u h .some
 
   -- the bounds of zone 1
-  pub start-cells : Cells u 384
-  start-cells = cells-of (decode t) right u h 1 (omega arith) some-zone
+  pub start-cells : (from : ℕ) → from ≡ startOf 1 → Cells u from
+  start-cells from e = subst (Cells u) (sym e) (cells-of m right u h 1 (omega arith) some-zone)
 
-  pub clocks-most : clocks t ≤ 4
-  clocks-most = omega (arith, right .clocks, clocks-is t g)
+  -- the state of the reply, the tasks of its jobs, and the location and queue order of zone 1
+  module _ (r : Reply) (s : said r ≡ went (held (start m))) (ts : List ℕ) (f : ts ≡ map taskOf (r .state .jobs)) (y : Home) (e : HomeRead u 0 (queueIn u 0) y) where
+    state-is : r .state ≡ held (start m)
+    state-is = started-state t r s
 
-  module _ (new count : ℕ) (e : new ≡ releasedIn t 1) (w : Counted new count) where
-    home-is : homeOf (start (decode t)) ≡ mkHome 1 (take count (tasksOf new))
-    home-is = start-home (decode t) new count (e ∙ released-is t g 1) (w .nothing) (w .one)
+    abbrev standing : Home
+    standing = record { location = r .state .location; tasks = ts; count = r .state .count }
 
-    -- its variables
-    pub many-is : (n : ℕ) → n ≡ 1 + clocks t + 2 * count → n ≡ variables (decode t) (homeOf (start (decode t)) .order)
-    many-is n q =
-        let l : length (take count (tasksOf new)) ≡ count = length-take-le count (tasksOf new) (omega (arith, w .few)) in
-        let k : length (homeOf (start (decode t)) .order) ≡ count = ap (λ (o : Home). length (o .order)) home-is ∙ l in
-        omega (arith, clocks-is t g)
+    -- what the test of its home asks
+    pub home-asks : (r .state .count ≤ 6) × (y .count ≤ 6)
+    home-asks = (start-small m (r .state) state-is, home-right m right u h 1 (omega arith) some-zone y e .few)
 
-    -- what the test of its home says
-    module _ (b : Bool) (d : (b ≡ true) ↔ SameHome u 1 1 (tasksOf new) count) where
-      same : SameHome u 1 1 (tasksOf new) count ↔ (mkHome 1 (take count (tasksOf new)) ≡ homeOfZone (zoneIn u 0))
-      same = same-home-iff (decode t) right u h 1 (omega arith) some-zone 1 count (tasksOf new) refl (omega (arith, w .few))
+    -- and what it says
+    module _ (b : Bool) (d : (b ≡ true) ↔ (homeOf standing ≡ homeOf y)) where
+      at-zone : homeOf y ≡ homeOfZone (zoneIn u 0)
+      at-zone = home-at m right u h 1 (omega arith) some-zone y e
 
-      pub at-home : not b ≡ false → homeOf (start (decode t)) ≡ homeOfZone (zoneIn u 0)
-      at-home q = home-is ∙ same .0 (d .0 (not-false b q))
+      at-start : homeOf standing ≡ Z.homeOf (start m)
+      at-start = start-home m (r .state) state-is ts f
 
-      pub start-away : not b ≡ true → (r : Reply) → said r ≡ went (held (start (decode t))) → Judged (decode t) (table.decode u) starts (found Elsewhere (r .state))
-      start-away q r s =
-          judged-start-elsewhere (decode t) right u h
-          (λ z. never (d .1 (same .1 (sym home-is ∙ z))) (not-true b q))
-          (r .state) (started-state t r s)
+      at-home : not b ≡ false → Z.homeOf (start m) ≡ homeOfZone (zoneIn u 0)
+      at-home q = sym at-start ∙ d .0 (not-false b q) ∙ at-zone
+
+      pub start-away : not b ≡ true → Judged m (table.decode u) starts (found Elsewhere (r .state))
+      start-away q = judged-start-elsewhere m right u h (λ z. never (d .1 (at-start ∙ z ∙ sym at-zone)) (not-true b q)) (r .state) state-is
 
       -- and what that of its bounds says
-      module _ (q : not b ≡ false) (n : ℕ) (all : n ≡ 1 + clocks t + 2 * count) (yes : Bool) (i j : ℕ)
-          (k : FirstBroken (replicate 289 (pos 0)) 17 n (replicate 17 0) (replicate 17 (pos 0)) u 384 yes i j) where
-        few : n ≤ 17
-        few = omega (arith, w .few, clocks-most)
+      module _ (q : not b ≡ false) (n : ℕ) (all : n ≡ suc (m .clocks + (r .state .count + r .state .count))) (few : n ≤ 17) (from : ℕ) (v : from ≡ startOf 1) (yes : Bool) (i j : ℕ)
+          (k : FirstBroken (replicate 289 (pos 0)) 17 n (replicate 17 0) (replicate 17 (pos 0)) u from yes i j) where
+        many : n ≡ variables m (Z.homeOf (start m) .order)
+        many = start-many m (r .state) state-is n all
 
-        pub start-broken : yes ≡ true → (r : Reply) → said r ≡ went (held (start (decode t))) → Judged (decode t) (table.decode u) starts (found (W.Breaks i j) (r .state))
-        start-broken y r s = judged-start-breaks (decode t) right u h (at-home q) n (many-is n all) few yes i j k y (r .state) (started-state t r s)
+        first : FirstBroken (replicate 289 (pos 0)) 17 n (replicate 17 0) (replicate 17 (pos 0)) u (startOf 1) yes i j
+        first = subst (λ (x : ℕ). FirstBroken (replicate 289 (pos 0)) 17 n (replicate 17 0) (replicate 17 (pos 0)) u x yes i j) v k
 
-        pub start-clear : yes ≡ false → Judged (decode t) (table.decode u) starts (found Nothing noState)
-        start-clear y = judged-start-holds (decode t) right u h (at-home q) n (many-is n all) few yes i j k y
+        pub start-broken : yes ≡ true → Judged m (table.decode u) starts (found (W.Breaks i j) (r .state))
+        start-broken w = judged-start-breaks m right u h (at-home q) n many few yes i j first w (r .state) state-is
+
+        pub start-clear : yes ≡ false → Judged m (table.decode u) starts (found Nothing noState)
+        start-clear w = judged-start-holds m right u h (at-home q) n many few yes i j first w

@@ -1,36 +1,34 @@
 -- Obligation 1: what is found of the start and zone 1, and what it says.
 -- Assumes nothing.
-use mathlib.Core.Path.{_≡_, refl, sym, _∙_, ap, subst}
-use mathlib.Core.Logic.{_⊎_, inl, inr}
-use mathlib.Core.Bool.{Bool, true, false, cond}
-use mathlib.Core.List.{List, [], _∷_, _++_}
-use mathlib.Core.Option.{Option, none, some}
-use Prim.Native.Nat.{ℕ, zero, suc, _+_, _-_, _*_, _≤_, _<_}
+use mathlib.Core.Path.{_≡_, refl, _∙_, ap, subst}
+use mathlib.Core.Bool.{Bool, true, false}
+use mathlib.Core.List.{List, [], _∷_, _++_, map}
+use mathlib.Core.Option.{some}
+use Prim.Native.Nat.{ℕ, zero, suc, _+_, _*_, _≤_, _<_}
 use native.Mathlib.Omega.{arith}
-use lib.Dec.{eqb}
 use lib.IntN.{ℤ, pos}
-use lib.ListN.{length, getD, take, replicate}
-use borrow.Author.Tests.{eqb-true, eqb-false, eq-eqb, ne-eqb}
-use Rattle.meaning.specs.Lists.{nth1, nth1D, insertAt}
-use Rattle.meaning.specs.Model.{Model, locationAt, releases, releasedAtStart}
+use lib.ListN.{length, getD, take, replicate, length-map}
+use Rattle.meaning.specs.Lists.{nth1, insertAt}
+use Rattle.meaning.specs.Model.{Model, releasedAtStart}
 use Rattle.meaning.specs.Machine.State as M
 use Rattle.meaning.specs.Machine.State.{order}
 use Rattle.meaning.specs.Machine.Place.{placeOf}
-use Rattle.meaning.specs.Machine.Release.{newJob, putAll}
+use Rattle.meaning.specs.Machine.Release.{newJob, put, putAll}
 use Rattle.meaning.specs.Machine.Run.{start}
-use Rattle.meaning.specs.Zones.Variables.{queueVars, vars, var, variables}
-use Rattle.meaning.specs.Zones.Reached.{Home, homeOf}
-use Rattle.meaning.specs.Zones.Reached.{homeOfZone}
+use Rattle.meaning.specs.Zones.Variables.{queueVars, var, variables}
+use Rattle.meaning.specs.Zones.Reached.{Home, homeOf, homeOfZone}
 use Rattle.meaning.specs.Check.Obligations.{starts}
 use Rattle.meaning.specs.Check.Faults as F
 use Rattle.meaning.specs.Check.Faults.{BreaksZone}
-use Rattle.meaning.specs.Text.RightModel.{RightModel}
+use Rattle.meaning.specs.Text.RightModel.{Each, RightModel}
 use Rattle.meaning.specs.Text.ProposalReader.{Given}
 use Rattle.meaning.specs.Text.ProposalTable.{zoneIn, decode}
 use Rattle.meaning.proofs.Check.Start.{start-elsewhere, start-breaks, start-holds}
 use Rattle.meaning.proofs.Exact.Bounds.{ranged-mem}
 use Rattle.meaning.specs.Numbers.{over, under}
-use Rattle.meaning.proofs.Hooks.{releasedAtStart-is}
+use Rattle.meaning.proofs.Hooks.{start-few}
+use Rattle.meaning.proofs.Machine.Proper.{right-formed}
+use Rattle.meaning.proofs.Zones.Home.{mkHome}
 use Rattle.bounds.specs.Matrix.{ent, at, Entries, Sol, Closed}
 use Rattle.bounds.specs.Images.{Map, Maps}
 use Rattle.bounds.specs.Images as I
@@ -38,59 +36,70 @@ use Rattle.bounds.specs.Claims as C
 use Rattle.bounds.specs.Results.{Met, FirstBroken}
 use Rattle.bounds.proofs.Store.{zeros, zerosZ}
 use Rattle.machine.specs.declared.State.{State}
-use Rattle.machine.specs.Stands.{held}
+use Rattle.machine.specs.Stands.{taskOf, cellsOf, held}
 use Rattle.machine.specs.Promise.{noState}
+use Rattle.machine.proofs.QueueLaws.{order-is, queue-cells}
+use Rattle.machine.proofs.ReleaseLaws.{putAll-length}
 use Rattle.zone_table.specs.Sound.{zonesIn}
 use Rattle.zone_table.proofs.ZoneParts.{given-is-sound, zone-is}
 use Rattle.verdict.specs.declared.answer.Fault.the-variants.{Nothing, Elsewhere}
 use Rattle.verdict.specs.declared.answer.Fault.the-variants as W
 use Rattle.verdict.specs.Judged.{Judged}
 use Rattle.verdict.proofs.FoundLaws.{found, judged-holds, judged-fails}
-use Rattle.verdict.proofs.ModelLaws.{right-formed}
 use Rattle.verdict.proofs.ClaimLaws.{zone-ranged, broken-there, there-broken}
 
 -- ---- the start
 
-alone : (k : ℕ) (j : M.Job) → insertAt k j [] ≡ j ∷ []
-alone zero j = refl
-alone (suc k) j = refl
+-- nothing is done yet, and no time has passed
+abbrev New : List M.Job → Type 0
+New q = Each (λ (j : M.Job). (j .done ≡ 0) × (j .age ≡ 0)) q
 
-start-queue : (m : Model) → start m .queue ≡ cond (eqb (locationAt m 1 .task) 0) [] (newJob (locationAt m 1 .task) ∷ [])
-start-queue m = ap (λ (ts : List ℕ). putAll m ts []) (releasedAtStart-is m) ∙ go (eqb (locationAt m 1 .task) 0)
-  where
-    go : (b : Bool) → putAll m (cond b [] (locationAt m 1 .task ∷ [])) [] ≡ cond b [] (newJob (locationAt m 1 .task) ∷ [])
-    go true = refl
-    go false = alone (placeOf m (locationAt m 1 .task) []) (newJob (locationAt m 1 .task))
+new-in : (k t : ℕ) (q : List M.Job) → New q → New (insertAt k (newJob t) q)
+new-in zero t q h = ((refl, refl), h)
+new-in (suc k) t [] h = ((refl, refl), tt)
+new-in (suc k) t (j ∷ q) h = (h .0, new-in k t q (h .1))
 
--- its home, by the task of location 1
-pub start-home : (m : Model) (new count : ℕ) → new ≡ locationAt m 1 .task → (new ≡ 0 → count ≡ 0) → ((new ≡ 0 → ⊥) → count ≡ 1)
-    → homeOf (start m) ≡ record { location = 1; order = take count (new ∷ 0 ∷ 0 ∷ 0 ∷ 0 ∷ 0 ∷ []) }
-start-home m new count e a b = ap (λ (q : List M.Job). mk (order q)) (start-queue m) ∙ go (eqb (locationAt m 1 .task) 0) refl
-  where
-    mk : List ℕ → Home
-    mk o = record { location = 1; order = o }
+new-all : (m : Model) (ts : List ℕ) (q : List M.Job) → New q → New (putAll m ts q)
+new-all m [] q h = h
+new-all m (t ∷ ts) q h = new-all m ts (put m t q) (new-in (placeOf m t q) t q h)
 
-    go : (x : Bool) → eqb (locationAt m 1 .task) 0 ≡ x → mk (order (cond x [] (newJob (locationAt m 1 .task) ∷ []))) ≡ mk (take count (new ∷ 0 ∷ 0 ∷ 0 ∷ 0 ∷ 0 ∷ []))
-    go true q = rw (a (e ∙ eqb-true (locationAt m 1 .task) 0 q)) refl
-    go false q = rw (b (λ z. eqb-false (locationAt m 1 .task) 0 q (sym e ∙ z)), e) refl
+new-zero : (q : List M.Job) → New q → (a : ℕ) → a ≡ 0 → (i : ℕ) → getD (queueVars a q) i 0 ≡ 0
+new-zero [] h a e i = refl
+new-zero (j ∷ q) h a e zero = omega (arith, h .0 .0)
+new-zero (j ∷ q) h a e (suc zero) = h .0 .1
+new-zero (j ∷ q) h a e (suc (suc i)) = new-zero q (h .1) (a + j .done) (omega (arith, h .0 .0)) i
 
--- all its variables are 0
 zeros-at : (n k : ℕ) (l : List ℕ) → ((i : ℕ) → getD l i 0 ≡ 0) → getD (replicate n 0 ++ l) k 0 ≡ 0
 zeros-at zero k l h = h k
 zeros-at (suc n) zero l h = refl
 zeros-at (suc n) (suc k) l h = zeros-at n k l h
 
+-- all its variables are 0, whatever is released
 pub start-zero : (m : Model) (i : ℕ) → var (start m) i ≡ 0
 start-zero m zero = refl
-start-zero m (suc k) =
-    ap (λ (q : List M.Job). getD (replicate (m .clocks) 0 ++ queueVars 0 q) k 0) (start-queue m)
-    ∙ zeros-at (m .clocks) k (queueVars 0 (cond (eqb (locationAt m 1 .task) 0) [] (newJob (locationAt m 1 .task) ∷ []))) (go (eqb (locationAt m 1 .task) 0))
-  where
-    go : (b : Bool) (i : ℕ) → getD (queueVars 0 (cond b [] (newJob (locationAt m 1 .task) ∷ []))) i 0 ≡ 0
-    go true i = refl
-    go false zero = refl
-    go false (suc zero) = refl
-    go false (suc (suc i)) = refl
+start-zero m (suc k) = zeros-at (m .clocks) k (queueVars 0 (start m .queue)) (new-zero (start m .queue) (new-all m (releasedAtStart m) [] tt) 0 refl)
+
+-- its queue has room in a state
+start-short : (m : Model) → length (start m .queue) ≤ 6
+start-short m = omega (arith, putAll-length m (releasedAtStart m) [], start-few m)
+
+-- its location and queue order, from the state that stands for it
+module _ (m : Model) (s : State) (e : s ≡ held (start m)) where
+  pub start-count : s .count ≡ length (start m .queue)
+  start-count = ap (λ (x : State). x .count) e
+
+  pub start-small : s .count ≤ 6
+  start-small = omega (arith, start-count, start-short m)
+
+  pub start-home : (ts : List ℕ) → ts ≡ map taskOf (s .jobs) → mkHome (s .location) (take (s .count) ts) ≡ homeOf (start m)
+  start-home ts f =
+      ap (λ (o : List ℕ). mkHome (s .location) (take (s .count) o)) f
+      ∙ ap (λ (x : State). mkHome (x .location) (take (x .count) (map taskOf (x .jobs)))) e
+      ∙ ap (mkHome 1) (order-is (cellsOf (start m .queue)) (length (start m .queue)) ∙ ap order (queue-cells (start m .queue) (start-short m)))
+
+  -- its variables
+  pub start-many : (n : ℕ) → n ≡ suc (m .clocks + (s .count + s .count)) → n ≡ variables m (homeOf (start m) .order)
+  start-many n f = omega (arith, start-count, length-map (start m .queue) (λ (j : M.Job). j .task))
 
 -- ---- the matrix of the start: every variable is 0
 

@@ -55,11 +55,11 @@ abbrev pub refused : Answer
 refused = record { refusal = notProper; number = 0; zone = 0; place = 0; fault = Nothing; state = noState }
 
 -- both tables are such that a text gives them
-pub record Usable (t u : List ℕ) : Type 0 where
+pub record BothGiven (t u : List ℕ) : Type 0 where
   pub model : Given t
   pub proposal : reader.Given (decode t) u
 
 -- the answer of the check: 13, or what is right of the model and the proposal that the tables hold
 pub data Answered (t u : List ℕ) (r : Answer) : Type 0 where
-  unusable : (Usable t u → ⊥) → r ≡ refused → Answered t u r
-  right : Usable t u → (a : A.Answer) → A.Right (decode t) (table.decode u) a → Says a r → Answered t u r
+  unusable : (BothGiven t u → ⊥) → r ≡ refused → Answered t u r
+  right : BothGiven t u → (a : A.Answer) → A.Right (decode t) (table.decode u) a → Says a r → Answered t u r

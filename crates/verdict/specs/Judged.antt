@@ -2,16 +2,22 @@
 -- Assumes nothing.
 use mathlib.Core.Path.{_≡_}
 use mathlib.Core.Option.{none, some}
-use Prim.Native.Nat.{ℕ, _+_, _≤_, _<_}
+use Prim.Native.Nat.{ℕ, _+_, _<_}
 use lib.ListN.{length}
 use Rattle.meaning.specs.Lists.{nth1}
 use Rattle.meaning.specs.Model.{Model}
 use Rattle.meaning.specs.Machine.State as M
 use Rattle.meaning.specs.Zones.Zone.{Zone, Proposal}
 use Rattle.meaning.specs.Zones.Steps.{Step, steps}
+use Rattle.meaning.specs.Zones.Reached.{homeOfZone}
 use Rattle.meaning.specs.Check.Faults as F
 use Rattle.meaning.specs.Check.Faults.{Fails}
 use Rattle.meaning.specs.Check.Obligations.{Obligation, follows, claimed, Holds}
+use Rattle.meaning.specs.Inner.Slots.{zoneBounds, RangedZone}
+use Rattle.bounds.specs.declared.tightening.Tight.{Tight}
+use Rattle.home.specs.declared.Home.{Home}
+use Rattle.home.specs.Stands.{homeOf, RightHome}
+use Rattle.zone_bounds.specs.Narrowed.{Narrowed}
 use Rattle.machine.specs.Stands.{held}
 use Rattle.machine.specs.Promise.{noState}
 use Rattle.verdict.specs.declared.answer.Fault.the-variants.{Nothing}
@@ -22,6 +28,18 @@ use Rattle.verdict.specs.Answers.{faultOf}
 -- the obligation of a step with its claim
 abbrev pub following : ℕ → ℕ → Zone → Step → ℕ → Obligation
 following n x z st c = follows (record { number = n; place = x; zone = z; step = st; claim = c })
+
+-- t is the matrix of zone z, which has this location and queue order
+pub record ClosedOf (m : Model) (z : Zone) (h : Home) (t : Tight) : Type 0 where
+  pub right : RightHome m h
+  pub home : homeOf h ≡ homeOfZone z
+  pub ranged : RangedZone m z
+  pub narrowed : Narrowed (zoneBounds m z) t
+
+-- it is that of some zone
+pub record ClosedBy (m : Model) (h : Home) (t : Tight) : Type 0 where
+  pub zone : Zone
+  pub closed : ClosedOf m zone h t
 
 -- no kind applies
 abbrev pub clear : Found

@@ -1,6 +1,5 @@
 pub mod Answers
 pub mod Judged
 pub mod Kinds
-pub mod Tests
 pub mod Failing
 pub mod AnsweredBy

@@ -15,7 +15,7 @@ use crate::found::is_clear;
 use crate::found::no_state;
 use crate::start::try_start;
 use crate::trying::try_zone;
-use zone_table::counts::zones as zones_in;
+use zone_table::zones as zones_in;
 
 // Refusal 13.
 pub(crate) fn refused() -> Answer

@@ -7,10 +7,8 @@ ghost use Rattle.verdict.specs.Answers.{Answered};
 mod answer;
 mod answering;
 mod found;
-mod home;
 mod judge;
 mod kinds;
-mod overflow;
 mod start;
 mod trying;
 
@@ -21,8 +19,8 @@ pub use answer::Tried;
 use answering::check_given;
 use answering::refused;
 pub use found::no_state;
-use model_text::writing::is_model;
-use zone_table::test::is_proposal;
+use model_text::is_model;
+use zone_table::is_proposal;
 
 // Accepted, with the number of obligations tried; or the first that fails, with the smallest state at
 // fault; or refusal 13 for tables that no text gives.

@@ -6,7 +6,6 @@ use mathlib.Core.Bool.{true, not, true≢false}
 use mathlib.Core.List.{List}
 use native.Mathlib.Omega.{arith}
 use lib.IntN.{ℤ, pos, negsuc}
-use lib.ListN.{getD}
 use borrow.Author.Count.{below-more}
 use borrow.Author.Tests.{eq-eqb, ne-eqb, lt-ltb, le-ltb}
 use mir.Syntax.{w32}
@@ -20,8 +19,9 @@ use Rattle.meaning.specs.Text.RightProposal.{RightBounds}
 use Rattle.meaning.proofs.Text.Choices.{by-lt}
 use Rattle.meaning.proofs.Text.Collects.{each-collect, ordered-collect, each-mem, mem-collect}
 use Rattle.zone.specs.declared.Zone.{Zone}
-use Rattle.zone.specs.Stands.{isBound, entryOf, orderOf, boundsOf}
-use Rattle.zone.specs.ByCell.{Small, RightAt, RightEntry, RightEntries}
+use Rattle.zone_bounds.specs.Entries.{isBound, entryIn, boundsIn}
+use Rattle.zone.specs.Stands.{orderOf, boundsOf}
+use Rattle.zone.specs.ByCell.{InRange, RightAt, RightEntry, RightEntries}
 
 -- ---- what stands at a place
 
@@ -30,9 +30,6 @@ bound-yes c h = rw (ne-eqb (over c) 1000000000 h)
 
 pub bound-no : (c : ℤ) → over c ≡ 1000000000 → isBound c ≡ true → ⊥
 bound-no c h e = true≢false (sym e ∙ ap not (eq-eqb (over c) 1000000000 h))
-
-pub bound-read : (c : ℤ) → isBound c ≡ true → over c ≡ 1000000000 → ⊥
-bound-read c e h = bound-no c h e
 
 -- the test for "no bound", as the machine makes it
 pub is-none : (c : ℤ) → SFits w32 c → ofZ w32 c ≡ 1000000000 → isBound c ≡ true → ⊥
@@ -43,23 +40,23 @@ is-bound (pos n) h = bound-yes (pos n) (λ e. h (ap (λ (k : ℕ). ofZ w32 (pos 
 is-bound (negsuc n) h = bound-yes (negsuc n) (λ e. omega arith)
 
 -- a number between two ends, from its two parts
-pub small-make : (c : ℤ) → over c ≤ 32000 + under c → under c ≤ 32000 + over c → Small c
-small-make (pos n) h k = record { least = omega arith; most = omega arith }
-small-make (negsuc n) h k = record { least = omega arith; most = omega arith }
+pub range-make : (c : ℤ) → over c ≤ 32000 + under c → under c ≤ 32000 + over c → InRange c
+range-make (pos n) h k = record { least = omega arith; most = omega arith }
+range-make (negsuc n) h k = record { least = omega arith; most = omega arith }
 
 -- ---- the loop over the entries
 
 -- it has passed the entries before k
 pub record Passed (n : ℕ) (b : List ℤ) (k : ℕ) : Type 0 where
   pub upto : k ≤ 289
-  pub each : (q : ℕ) → q < k → RightEntry n q (getD b q (pos 0))
+  pub each : (q : ℕ) → q < k → RightEntry n q (entryIn b q)
 
 module _ (n : ℕ) (b : List ℤ) where
   pub passed-start : Passed n b 0
   passed-start = record { upto = omega arith; each = λ q h. absurd (omega arith) }
 
-  pub passed-more : (k : ℕ) → Passed n b k → k < 289 → RightEntry n k (getD b k (pos 0)) → Passed n b (k + 1)
-  passed-more k w h e = record { upto = omega arith; each = below-more (λ (q : ℕ). RightEntry n q (getD b q (pos 0))) k (w .each) e }
+  pub passed-more : (k : ℕ) → Passed n b k → k < 289 → RightEntry n k (entryIn b k) → Passed n b (k + 1)
+  passed-more k w h e = record { upto = omega arith; each = below-more (λ (q : ℕ). RightEntry n q (entryIn b q)) k (w .each) e }
 
   pub passed-end : (k : ℕ) → Passed n b k → 289 ≤ k → RightEntries n b
   passed-end k w h = record { each = λ q l. w .each q (omega arith) }
@@ -79,20 +76,20 @@ row-by-row a b c d h =
 module _ (m : Model) (z : Zone) where
   -- a bound from its entry, and back
   right-of : (k : ℕ) (c : ℤ) → RightAt (variables m (orderOf z)) k c → RightBound (variables m (orderOf z) - 1) 32000 (record { i = k / 17; j = k % 17; c = c })
-  right-of k c r = record { i = omega arith; j = omega arith; two = r .two; least = r .small .least; most = r .small .most }
+  right-of k c r = record { i = omega arith; j = omega arith; two = r .two; least = r .range .least; most = r .range .most }
 
   pub right-to : (k : ℕ) (c : ℤ) → RightBound (variables m (orderOf z) - 1) 32000 (record { i = k / 17; j = k % 17; c = c }) → RightAt (variables m (orderOf z)) k c
-  right-to k c r = record { two = r .two; i = omega arith; j = omega arith; small = record { least = r .least; most = r .most } }
+  right-to k c r = record { two = r .two; i = omega arith; j = omega arith; range = record { least = r .least; most = r .most } }
 
   pub entries-read : RightEntries (variables m (orderOf z)) (z .bounds) → RightBounds m (orderOf z) (boundsOf z)
-  unfolding boundsOf
+  unfolding boundsIn
   entries-read r = record {
-    each = each-collect _ 289 _ _ (λ k h e. right-of k (entryOf z k) (r .each k h .bound e));
-    rising = ordered-collect _ 289 _ _ (λ a b l h e f. row-by-row a b (entryOf z a) (entryOf z b) l);
+    each = each-collect _ 289 _ _ (λ k h e. right-of k (entryIn (z .bounds) k) (r .each k h .bound e));
+    rising = ordered-collect _ 289 _ _ (λ a b l h e f. row-by-row a b (entryIn (z .bounds) a) (entryIn (z .bounds) b) l);
   }
 
   pub entries-make : RightBounds m (orderOf z) (boundsOf z) → RightEntries (variables m (orderOf z)) (z .bounds)
-  unfolding boundsOf
+  unfolding boundsIn
   entries-make r = record {
-    each = λ k h. record { bound = λ e. right-to k (entryOf z k) (each-mem _ (boundsOf z) (r .each) _ (mem-collect 289 (λ k. isBound (entryOf z k)) (λ k. record { i = k / 17; j = k % 17; c = entryOf z k }) k h e)) };
+    each = λ k h. record { bound = λ e. right-to k (entryIn (z .bounds) k) (each-mem _ (boundsOf z) (r .each) _ (mem-collect 289 (λ k. isBound (entryIn (z .bounds) k)) (λ k. record { i = k / 17; j = k % 17; c = entryIn (z .bounds) k }) k h e)) };
   }

@@ -2,20 +2,19 @@
 -- Assumes nothing.
 use Prim.Native.Nat.{ℕ, suc, _+_, _*_, _≤_, _<_}
 use mathlib.Core.Path.{_≡_, refl, sym, _∙_, ap, subst}
-use mathlib.Core.List.{List, [], _∷_, map}
+use mathlib.Core.List.{List, [], _∷_}
 use native.Mathlib.Omega.{arith}
 use native.Mathlib.Numerals.{add-one}
 use lib.IntN.{ℤ, pos, negℤ}
-use lib.ListN.{length, getD, take, drop, set, length-set, replicate, getD-replicate, length-map, List·getD-map, drop-of-length-le}
-use lib.Seq.{drop-cons, getD-take, length-take-le, getD-set-same, getD-set-other, ext-getD}
-use borrow.Author.Count.{below-more}
+use lib.ListN.{length, getD, take, drop, set, replicate, getD-replicate, length-map, List·getD-map, drop-of-length-le}
+use lib.Seq.{drop-cons, getD-take, length-take-le}
 use Rattle.meaning.specs.Model.{Bound}
 use Rattle.meaning.specs.Machine.State as M
 use Rattle.meaning.specs.Zones.Zone.{exactly, clockBounds, queueBounds}
 use Rattle.machine.specs.Stands.{jobOf, queueOf, noJob}
 use Rattle.machine.specs.declared.Job.{Job}
-use Rattle.zone.specs.Stands.{noBound}
-use Rattle.zone.specs.ByCell.{Empty, Written, ClocksWritten, JobsWritten, taskOf}
+use Rattle.zone_bounds.specs.Entries.{noBound}
+use Rattle.zone.specs.ByCell.{Empty, Written, ClocksWritten, JobsWritten}
 use Rattle.zone.proofs.Writes.{write-both, write-start}
 
 -- ---- the clocks
@@ -127,30 +126,3 @@ module _ (b : List ℤ) (n : ℕ) (js : List Job) (c : ℕ) (e : length js ≡ 6
         all = λ all x. subst (λ (m : ℕ). Written all r m []) q
             (subst (Written all r v) (ap (queueBounds a v) (drop-of-length-le (queueOf js c) {i = k} (omega arith))) (w .all all x));
       }
-
--- ---- the tasks
-
--- the tasks of the first k jobs are there
-pub record TasksUpto (js : List Job) (r : List ℕ) (k : ℕ) : Type 0 where
-  pub upto : k ≤ 6
-  pub long : length r ≡ 6
-  pub each : (q : ℕ) → q < k → getD r q 0 ≡ taskOf (getD js q noJob)
-
-pub tasks-start : (js : List Job) (r : List ℕ) → length r ≡ 6 → TasksUpto js r 0
-tasks-start js r e = record { upto = omega arith; long = e; each = λ q h. absurd (omega arith) }
-
-pub tasks-more : (js : List Job) (r : List ℕ) (k v : ℕ) → TasksUpto js r k → k < 6 → v ≡ taskOf (getD js k noJob) → TasksUpto js (set r k v) (k + 1)
-tasks-more js r k v w h e =
-    let l = w .long in
-    record {
-      upto = omega arith;
-      long = length-set r k v ∙ w .long;
-      each = below-more (λ (q : ℕ). getD (set r k v) q 0 ≡ taskOf (getD js q noJob)) k
-          (λ q b. getD-set-other r k q v 0 (omega arith) ∙ w .each q b) (getD-set-same r k v 0 (omega arith) ∙ e);
-    }
-
-pub tasks-end : (js : List Job) (r : List ℕ) (k : ℕ) → length js ≡ 6 → TasksUpto js r k → 6 ≤ k → r ≡ map taskOf js
-tasks-end js r k e w h =
-    let l = w .long in
-    let n = length-map js taskOf in
-    ext-getD 0 r (map taskOf js) (omega arith) (λ q b. w .each q (omega arith) ∙ sym (List·getD-map taskOf js q noJob))

@@ -1,5 +1,3 @@
-pub mod Walks
-pub mod OrderLaws
 pub mod EntryLaws
 pub mod LendableLaws
 pub mod Writes

@@ -17,17 +17,22 @@ use Rattle.meaning.specs.Zones.Reached.{homeOf}
 use Rattle.meaning.specs.Text.RightModel.{RightModel}
 use Rattle.meaning.proofs.Zones.Given.{widest-holds, zoneOf-holds}
 use Rattle.meaning.proofs.Text.Collects.{each-mem}
+use Rattle.home.specs.Stands as H
+use Rattle.home.specs.Stands.{RightHome}
+use Rattle.home.specs.declared.Home.{Home}
+use Rattle.zone_bounds.specs.Entries.{boundsIn, zoneWith}
 use Rattle.machine.specs.Stands as S
-use Rattle.machine.specs.Stands.{queueOf, stateOf}
+use Rattle.machine.specs.Stands.{taskOf, queueOf, stateOf}
 use Rattle.machine.specs.declared.Job.{Job}
 use Rattle.machine.specs.declared.State.{State}
+use Rattle.machine.proofs.QueueLaws.{order-is}
 use Rattle.zone.specs.declared.Zone.{Zone}
-use Rattle.zone.specs.Stands.{orderOf, boundsOf, zoneOf, Lendable}
-use Rattle.zone.specs.Promise.{RightCells, WidestZone, ExactZone}
-use Rattle.zone.specs.ByCell.{Empty, Written, ClocksWritten, JobsWritten, RightEntries, written, taskOf}
+use Rattle.zone.specs.Stands.{orderOf, boundsOf, zoneOf}
+use Rattle.zone.specs.Promise.{WidestZone, ExactZone}
+use Rattle.zone.specs.ByCell.{Empty, Written, ClocksWritten, JobsWritten, RightEntries}
 use Rattle.zone.proofs.EntryLaws.{right-to}
 use Rattle.zone.proofs.LendableLaws.{lent-make}
-use Rattle.zone.proofs.StateLaws.{order-is, order-cells, bounds-right}
+use Rattle.zone.proofs.StateLaws.{order-right, bounds-right}
 use Rattle.zone.proofs.Writes.{written-make, written-none}
 
 -- ---- lists
@@ -36,24 +41,20 @@ nothing-there : {A : Type 0} (l : List A) → ((a : A) → List·Memᴰ a l → 
 nothing-there [] h = refl
 nothing-there (x ∷ l) h = absurd (h x (List·Memᴰ·head refl))
 
-pub bounds-written : (z : Zone) → boundsOf z ≡ written (z .bounds)
-unfolding boundsOf written
-bounds-written z = refl
-
 -- ---- the widest zone
 
-module _ (m : Model) (z : Zone) (r : RightCells m (z .location) (z .tasks) (z .count)) (e : Empty (z .bounds)) where
-  no-bounds : boundsOf z ≡ []
-  no-bounds = bounds-written z ∙ nothing-there (written (z .bounds)) (written-none (z .bounds) e)
+module _ (m : Model) (h : Home) (bs : List ℤ) (r : RightHome m h) (e : Empty bs) where
+  no-bounds : boundsIn bs ≡ []
+  no-bounds = nothing-there (boundsIn bs) (written-none bs e)
 
-  widest-is : zoneOf z ≡ Z.widest (z .location) (orderOf z)
-  widest-is = ap (λ (bs : List Bound). record { location = z .location; order = orderOf z; bounds = bs; claims = [] }) no-bounds
+  widest-is : zoneWith h bs ≡ Z.widest (h .location) (H.orderOf h)
+  widest-is = ap (λ (b : List Bound). record { location = h .location; order = H.orderOf h; bounds = b; claims = [] }) no-bounds
 
-  pub widest-made : WidestZone m (z .location) (take (z .count) (z .tasks)) z
+  pub widest-made : WidestZone m h (record { home = h; bounds = bs })
   widest-made = record {
-    lendable = record { few = r .few; order = r .order; bounds = rw no-bounds (record { each = tt; rising = tt }); unused = r .unused };
+    lendable = record { home = r; bounds = rw no-bounds (record { each = tt; rising = tt }) };
     is = widest-is;
-    holds = λ x. subst (λ (y : Z.Zone). InZone m y x ↔ ((homeOf x ≡ record { location = z .location; order = orderOf z }) × Proper m x)) (sym widest-is) (widest-holds m (z .location) (orderOf z) x);
+    holds = λ x. subst (λ (y : Z.Zone). InZone m y x ↔ ((homeOf x ≡ H.homeOf h) × Proper m x)) (sym widest-is) (widest-holds m (h .location) (H.orderOf h) x);
   }
 
 -- ---- the zone of one state
@@ -61,7 +62,7 @@ module _ (m : Model) (z : Zone) (r : RightCells m (z .location) (z .tasks) (z .c
 module _ (m : Model) (r : RightModel m) (s : State) (l : S.Lendable m s) (b₁ b₂ : List ℤ) (w₁ : ClocksWritten (s .clocks) (m .clocks) b₁) (w₂ : JobsWritten b₁ (m .clocks) (s .jobs) (s .count) b₂) where
   -- the zone that is made, the state, and the bounds that its zone has
   abbrev made : Zone
-  made = record { location = s .location; tasks = map taskOf (s .jobs); count = s .count; bounds = b₂ }
+  made = record { home = record { location = s .location; tasks = map taskOf (s .jobs); count = s .count }; bounds = b₂ }
 
   abbrev queue : List M.Job
   queue = queueOf (s .jobs) (s .count)
@@ -76,20 +77,17 @@ module _ (m : Model) (r : RightModel m) (s : State) (l : S.Lendable m s) (b₁ b
       subst (λ (v : ℕ). Written (clockBounds 1 (take (m .clocks) (s .clocks)) (queueBounds 0 v queue)) b₂ (m .clocks + 1 + 2 * s .count) []) n
       (w₂ .all (clockBounds 1 (take (m .clocks) (s .clocks)) (queueBounds 0 (m .clocks + 1) queue)) (w₁ .all (queueBounds 0 (m .clocks + 1) queue)))
 
-  to-all : (b : Bound) → List·Memᴰ b (written b₂) → List·Memᴰ b all
+  to-all : (b : Bound) → List·Memᴰ b (boundsIn b₂) → List·Memᴰ b all
   to-all b x = all-written .from b (inl x)
 
-  from-all : (b : Bound) → List·Memᴰ b all → List·Memᴰ b (written b₂)
+  from-all : (b : Bound) → List·Memᴰ b all → List·Memᴰ b (boundsIn b₂)
   from-all b x = ⊎-elim (λ y. y) (λ y. absurd (List·Memᴰ·not-nil y)) (all-written .to b x)
 
   same-bounds : (b : Bound) → List·Memᴰ b (boundsOf made) ↔ List·Memᴰ b all
-  same-bounds b = (
-    λ x. to-all b (subst (List·Memᴰ b) (bounds-written made) x),
-    λ x. subst (List·Memᴰ b) (sym (bounds-written made)) (from-all b x),
-  )
+  same-bounds b = (to-all b, from-all b)
 
   same-order : orderOf made ≡ M.order queue
-  same-order = order-is (s .count) (s .jobs)
+  same-order = order-is (s .jobs) (s .count)
 
   right-entries : RightEntries (variables m (orderOf made)) b₂
   right-entries =
@@ -108,7 +106,7 @@ module _ (m : Model) (r : RightModel m) (s : State) (l : S.Lendable m s) (b₁ b
 
   pub exact-made : ExactZone m (stateOf m s) made
   exact-made = record {
-    lendable = lent-make m made (variables m (orderOf made)) refl (order-cells m s l) right-entries;
+    lendable = lent-make m made (variables m (orderOf made)) refl (order-right m s l) right-entries;
     location = refl;
     order = same-order;
     bounds = same-bounds;

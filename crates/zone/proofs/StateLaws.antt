@@ -14,12 +14,13 @@ use Rattle.meaning.specs.Text.RightModel.{Each, RightTask, RightBound, RightMod
 use Rattle.meaning.proofs.Numbers.{over-neg, under-neg}
 use Rattle.meaning.proofs.Lists.{mem-map-inv}
 use Rattle.meaning.proofs.Text.Choices.{by-lt}
-use Rattle.machine.specs.Stands.{jobOf, cellOf, queueOf, noJob, Lendable}
+use Rattle.home.specs.Stands.{RightHome}
+use Rattle.machine.specs.Stands.{jobOf, taskOf, cellOf, queueOf, noJob, Lendable}
 use Rattle.machine.specs.declared.Job.{Job}
 use Rattle.machine.specs.declared.State.{State}
 use Rattle.machine.proofs.Arrays.{padded-length, padded-read}
-use Rattle.zone.specs.Promise.{RightCells}
-use Rattle.zone.specs.ByCell.{SmallClocks, SmallJobs, taskOf}
+use Rattle.machine.proofs.QueueLaws.{order-is}
+use Rattle.zone.specs.ByCell.{SmallClocks, SmallJobs}
 
 -- ---- lists
 
@@ -90,11 +91,6 @@ module _ (last : ℕ) where
 
 -- ---- the queue
 
-pub order-is : (n : ℕ) (js : List Job) → take n (map taskOf js) ≡ M.order (queueOf js n)
-order-is zero js = refl
-order-is (suc n) [] = refl
-order-is (suc n) (j ∷ js) = ap (λ (o : List ℕ). j .task ∷ o) (order-is n js)
-
 module _ (m : Model) (s : State) (l : Lendable m s) where
   pub jobs-cells : length (s .jobs) ≡ 6
   jobs-cells = ap (λ (x : State). length (x .jobs)) (l .unused) ∙ padded-length noJob 6 (map cellOf (queueOf (s .jobs) (s .count)))
@@ -114,10 +110,10 @@ module _ (m : Model) (s : State) (l : Lendable m s) where
       ap (λ (x : State). getD (x .jobs) k noJob) (l .unused) ∙ padded-read noJob 6 (map cellOf q) k (omega arith)
       ∙ List·getD-eq-default (map cellOf q) noJob (omega arith)
 
-  pub order-cells : RightCells m (s .location) (map taskOf (s .jobs)) (s .count)
-  order-cells =
+  pub order-right : RightHome m (record { location = s .location; tasks = map taskOf (s .jobs); count = s .count })
+  order-right =
       let q = queueOf (s .jobs) (s .count) in
-      let e = order-is (s .count) (s .jobs) in
+      let e = order-is (s .jobs) (s .count) in
       let c = jobs-count in
       let f = jobs-few in
       let n = length-map q (λ (j : M.Job). j .task) in

@@ -2,14 +2,13 @@
 -- Assumes nothing.
 use Prim.Native.Nat.{ℕ, _<_}
 use mathlib.Core.Path.{_≡_, refl, sym, _∙_, ap, subst}
-use mathlib.Core.Logic.{_↔_}
-use mathlib.Core.Bool.{Bool, true, false, not}
+use mathlib.Core.Bool.{Bool, true, false}
 use mathlib.Core.List.{List, List·Memᴰ, List-discrete}
 use native.Mathlib.Decide.{ℕ-discrete}
 use native.Mathlib.Omega.{arith}
 use lib.Dec.{eqb}
 use lib.IntN.{ℤ, pos, negsuc, ℤ-discrete}
-use lib.ListN.{length, getD, take}
+use lib.ListN.{length, getD}
 use lib.Seq.{ext-getD, getD-take, length-take-le}
 use borrow.Author.Tests.{eqb-true, not-false}
 use Rattle.meaning.specs.Model.{Bound, Model}
@@ -21,24 +20,16 @@ use Rattle.machine.specs.Stands.{stateOf}
 use Rattle.machine.specs.declared.State.{State}
 use Rattle.zone.specs.declared.Zone.{Zone}
 use Rattle.zone.specs.declared.Made.{Made}
-use Rattle.zone.specs.Stands.{noBound, isBound, orderOf, boundsOf, zoneOf, Lendable}
+use Rattle.home.specs.declared.Home.{Home}
+use Rattle.zone_bounds.specs.Entries.{noBound, isBound, boundsIn}
+use Rattle.zone.specs.Stands.{orderOf, boundsOf, zoneOf, Lendable}
 use Rattle.zone.specs.Promise.{WidestZone, ExactZone, NotMade, MadeWidest, MadeExact}
-use Rattle.zone.specs.ByCell.{written}
 use Rattle.zone.proofs.Writes.{at, written-make, written-read}
-use Rattle.zone.proofs.MadeLaws.{bounds-written}
 
 -- an array has its length
 pub record Sized (z : Zone) : Type 0 where
-  pub tasks : length (z .tasks) ≡ 6
+  pub tasks : length (z .home .tasks) ≡ 6
   pub bounds : length (z .bounds) ≡ 289
-
--- ---- a test has one answer
-
-pub test-once : {P : Type 0} (a b : Bool) → (a ≡ true) ↔ P → (b ≡ true) ↔ P → a ≡ b
-test-once true true p q = refl
-test-once false false p q = refl
-test-once true false p q = sym (q .1 (p .0 refl))
-test-once false true p q = p .1 (q .0 refl)
 
 -- ---- the entries are those whose bounds are written
 
@@ -57,14 +48,14 @@ place-of k q c d e =
     let j = ap (λ (x : Bound). x .j) e in
     omega arith
 
-module _ (a b : List ℤ) (same : (x : Bound) → List·Memᴰ x (written a) → List·Memᴰ x (written b)) where
+module _ (a b : List ℤ) (same : (x : Bound) → List·Memᴰ x (boundsIn a) → List·Memᴰ x (boundsIn b)) where
   entry-goes : (k : ℕ) → k < 289 → isBound (getD a k (pos 0)) ≡ true → getD a k (pos 0) ≡ getD b k (pos 0)
   entry-goes k h e =
       let r = written-read b (at k (getD a k (pos 0))) (same (at k (getD a k (pos 0))) (written-make a k h e)) in
       same-place k (r .0) (getD a k (pos 0)) (getD b (r .0) (pos 0)) (r .3)
       ∙ ap (λ (q : ℕ). getD b q (pos 0)) (sym (place-of k (r .0) (getD a k (pos 0)) (getD b (r .0) (pos 0)) (r .3)))
 
-entry-once : (a b : List ℤ) → ((x : Bound) → List·Memᴰ x (written a) → List·Memᴰ x (written b)) → ((x : Bound) → List·Memᴰ x (written b) → List·Memᴰ x (written a))
+entry-once : (a b : List ℤ) → ((x : Bound) → List·Memᴰ x (boundsIn a) → List·Memᴰ x (boundsIn b)) → ((x : Bound) → List·Memᴰ x (boundsIn b) → List·Memᴰ x (boundsIn a))
     → (k : ℕ) → k < 289 → getD a k (pos 0) ≡ getD b k (pos 0)
 entry-once a b to from k h = go (isBound (getD a k (pos 0))) refl (isBound (getD b k (pos 0))) refl
   where
@@ -75,24 +66,24 @@ entry-once a b to from k h = go (isBound (getD a k (pos 0))) refl (isBound (getD
 
 -- ---- a zone is what it stands for
 
-tasks-once : (m : Model) (y z : Zone) → Sized y → Sized z → Lendable m y → Lendable m z → orderOf y ≡ orderOf z → (y .count ≡ z .count) × (y .tasks ≡ z .tasks)
+tasks-once : (m : Model) (y z : Zone) → Sized y → Sized z → Lendable m y → Lendable m z → orderOf y ≡ orderOf z → (y .home .count ≡ z .home .count) × (y .home .tasks ≡ z .home .tasks)
 tasks-once m y z u v k l e =
-    let f = k .few in
-    let g = l .few in
+    let f = k .home .few in
+    let g = l .home .few in
     let a = u .tasks in
     let b = v .tasks in
-    let c = length-take-le (y .count) (y .tasks) (omega arith) in
-    let d = length-take-le (z .count) (z .tasks) (omega arith) in
-    let n : y .count ≡ z .count = omega (arith, ap length e) in (
+    let c = length-take-le (y .home .count) (y .home .tasks) (omega arith) in
+    let d = length-take-le (z .home .count) (z .home .tasks) (omega arith) in
+    let n : y .home .count ≡ z .home .count = omega (arith, ap length e) in (
       n,
-      ext-getD 0 (y .tasks) (z .tasks) (omega arith) (λ i h.
-          by-lt i (y .count)
-          (λ p. sym (getD-take (y .count) (y .tasks) i 0 p) ∙ ap (λ (o : List ℕ). getD o i 0) e ∙ getD-take (z .count) (z .tasks) i 0 (omega arith))
-          (λ p. k .unused i p ∙ sym (l .unused i (omega arith)))),
+      ext-getD 0 (y .home .tasks) (z .home .tasks) (omega arith) (λ i h.
+          by-lt i (y .home .count)
+          (λ p. sym (getD-take (y .home .count) (y .home .tasks) i 0 p) ∙ ap (λ (o : List ℕ). getD o i 0) e ∙ getD-take (z .home .count) (z .home .tasks) i 0 (omega arith))
+          (λ p. k .home .unused i p ∙ sym (l .home .unused i (omega arith)))),
     )
 
 -- zones that may be lent, with the same location, order and bounds
-pub zone-once : (m : Model) (y z : Zone) → Sized y → Sized z → Lendable m y → Lendable m z → y .location ≡ z .location → orderOf y ≡ orderOf z
+pub zone-once : (m : Model) (y z : Zone) → Sized y → Sized z → Lendable m y → Lendable m z → y .home .location ≡ z .home .location → orderOf y ≡ orderOf z
     → ((x : Bound) → List·Memᴰ x (boundsOf y) → List·Memᴰ x (boundsOf z)) → ((x : Bound) → List·Memᴰ x (boundsOf z) → List·Memᴰ x (boundsOf y)) → y ≡ z
 zone-once m y z u v k l p e to from =
     let t = tasks-once m y z u v k l e in
@@ -102,9 +93,7 @@ zone-once m y z u v k l p e to from =
     let b = v .bounds in
     let bs = ext-getD (pos 0) (y .bounds) (z .bounds) (omega arith) (λ i h.
     entry-once (y .bounds) (z .bounds)
-    (λ x w. subst (List·Memᴰ x) (bounds-written z) (to x (subst (List·Memᴰ x) (sym (bounds-written y)) w)))
-    (λ x w. subst (List·Memᴰ x) (bounds-written y) (from x (subst (List·Memᴰ x) (sym (bounds-written z)) w)))
-    i (omega arith)) in
+    to from i (omega arith)) in
     rw (p, c, ts, bs)
 
 -- and those that stand for one zone
@@ -116,8 +105,8 @@ stands-once m y z u v k l e =
 
 -- ---- what is made
 
-pub widest-once : (m : Model) (l : ℕ) (o : List ℕ) (y z : Zone) → Sized y → Sized z → WidestZone m l o y → WidestZone m l o z → y ≡ z
-widest-once m l o y z u v p q = stands-once m y z u v (p .lendable) (q .lendable) (p .is ∙ sym (q .is))
+pub widest-once : (m : Model) (h : Home) (y z : Zone) → Sized y → Sized z → WidestZone m h y → WidestZone m h z → y ≡ z
+widest-once m h y z u v p q = stands-once m y z u v (p .lendable) (q .lendable) (p .is ∙ sym (q .is))
 
 pub exact-once : (m : Model) (s : M.State) (y z : Zone) → Sized y → Sized z → ExactZone m s y → ExactZone m s z → y ≡ z
 exact-once m s y z u v p q =
@@ -132,16 +121,16 @@ not-made-once a b p q =
 
 -- two that are not unequal are equal
 made-decided : (a b : Made) → Dec (a ≡ b)
-made-decided a b = go (ℕ-discrete (a .refusal) (b .refusal)) (ℕ-discrete (a .zone .location) (b .zone .location)) (List-discrete ℕ-discrete (a .zone .tasks) (b .zone .tasks))
-    (ℕ-discrete (a .zone .count) (b .zone .count)) (List-discrete ℤ-discrete (a .zone .bounds) (b .zone .bounds))
+made-decided a b = go (ℕ-discrete (a .refusal) (b .refusal)) (ℕ-discrete (a .zone .home .location) (b .zone .home .location)) (List-discrete ℕ-discrete (a .zone .home .tasks) (b .zone .home .tasks))
+    (ℕ-discrete (a .zone .home .count) (b .zone .home .count)) (List-discrete ℤ-discrete (a .zone .bounds) (b .zone .bounds))
   where
-    go : Dec (a .refusal ≡ b .refusal) → Dec (a .zone .location ≡ b .zone .location) → Dec (a .zone .tasks ≡ b .zone .tasks) → Dec (a .zone .count ≡ b .zone .count) → Dec (a .zone .bounds ≡ b .zone .bounds)
+    go : Dec (a .refusal ≡ b .refusal) → Dec (a .zone .home .location ≡ b .zone .home .location) → Dec (a .zone .home .tasks ≡ b .zone .home .tasks) → Dec (a .zone .home .count ≡ b .zone .home .count) → Dec (a .zone .bounds ≡ b .zone .bounds)
         → Dec (a ≡ b)
     go (yes p) (yes q) (yes r) (yes s) (yes t) = yes (rw (p, q, r, s, t))
     go (no p) q r s t = no (λ e. p (ap (λ (x : Made). x .refusal) e))
-    go (yes p) (no q) r s t = no (λ e. q (ap (λ (x : Made). x .zone .location) e))
-    go (yes p) (yes q) (no r) s t = no (λ e. r (ap (λ (x : Made). x .zone .tasks) e))
-    go (yes p) (yes q) (yes r) (no s) t = no (λ e. s (ap (λ (x : Made). x .zone .count) e))
+    go (yes p) (no q) r s t = no (λ e. q (ap (λ (x : Made). x .zone .home .location) e))
+    go (yes p) (yes q) (no r) s t = no (λ e. r (ap (λ (x : Made). x .zone .home .tasks) e))
+    go (yes p) (yes q) (yes r) (no s) t = no (λ e. s (ap (λ (x : Made). x .zone .home .count) e))
     go (yes p) (yes q) (yes r) (yes s) (no t) = no (λ e. t (ap (λ (x : Made). x .zone .bounds) e))
 
 -- equal where something is so, and equal where it is not
@@ -152,14 +141,14 @@ by-both a b f g = go (made-decided a b)
     go (yes e) = e
     go (no d) = g (λ p. d (f p))
 
-pub made-widest-once : (t : List ℕ) (l : ℕ) (ts : List ℕ) (n : ℕ) (a b : Made) → Sized (a .zone) → Sized (b .zone) → MadeWidest t l ts n a → MadeWidest t l ts n b → a ≡ b
-made-widest-once t l ts n a b u v p q =
+pub made-widest-once : (t : List ℕ) (h : Home) (a b : Made) → Sized (a .zone) → Sized (b .zone) → MadeWidest t h a → MadeWidest t h b → a ≡ b
+made-widest-once t h a b u v p q =
     by-both a b
     (λ g.
     let x = p .usable g in
     let y = q .usable g in
     let r = x .0 ∙ sym (y .0) in
-    let z = widest-once (decode t) l (take n ts) (a .zone) (b .zone) u v (x .1) (y .1) in
+    let z = widest-once (decode t) h (a .zone) (b .zone) u v (x .1) (y .1) in
     rw (r, z))
     (λ f. not-made-once a b (p .unusable f) (q .unusable f))
 

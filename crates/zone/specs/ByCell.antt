@@ -1,37 +1,21 @@
--- What the inner functions say of single tasks and entries: for their contracts, not for a reader to believe.
+-- What the inner functions say of single entries: for their contracts, not for a reader to believe.
 -- Assumes nothing.
 use Prim.Native.Nat.{ℕ, _+_, _*_, _≤_, _<_, _/_, _%_}
 use mathlib.Core.Path.{_≡_}
-use mathlib.Core.Bool.{Bool, true, not, _&&_}
+use mathlib.Core.Bool.{true}
 use mathlib.Core.Logic.{_⊎_}
-use mathlib.Core.List.{List, [], _∷_, List·Memᴰ}
-use lib.Dec.{ltb, leb, eqb}
-use lib.IntN.{ℤ, pos}
+use mathlib.Core.List.{List, [], List·Memᴰ}
+use lib.IntN.{ℤ}
 use lib.ListN.{length, getD, take}
 use Rattle.meaning.specs.Numbers.{over, under}
-use Rattle.meaning.specs.Lists.{elem, every}
 use Rattle.meaning.specs.Model.{Bound}
 use Rattle.meaning.specs.Zones.Zone.{clockBounds, queueBounds}
-use Rattle.meaning.specs.Text.ModelTable.{collect}
 use Rattle.machine.specs.Stands.{queueOf, noJob}
 use Rattle.machine.specs.declared.Job.{Job}
-use Rattle.zone.specs.Stands.{noBound, isBound}
-
--- t is one of n tasks, and does not stand in o
-abbrev pub rightTask : ℕ → ℕ → List ℕ → Bool
-rightTask n t o = (ltb 0 t && leb t n) && not (elem t o)
-
--- each is, with those behind it
-abbrev pub rightTasks : ℕ → List ℕ → Bool
-rightTasks n [] = true
-rightTasks n (t ∷ o) = rightTask n t o && rightTasks n o
-
--- nothing but 0
-abbrev pub allZero : List ℕ → Bool
-allZero l = every (λ (x : ℕ). eqb x 0) l
+use Rattle.zone_bounds.specs.Entries.{noBound, isBound, entryIn, boundsIn}
 
 -- "from −32,000 to 32,000"
-pub record Small (c : ℤ) : Type 0 where
+pub record InRange (c : ℤ) : Type 0 where
   pub least : under c ≤ 32000
   pub most : over c ≤ 32000
 
@@ -40,7 +24,7 @@ pub record RightAt (n k : ℕ) (c : ℤ) : Type 0 where
   pub two : k / 17 ≡ k % 17 → ⊥
   pub i : k / 17 < n
   pub j : k % 17 < n
-  pub small : Small c
+  pub range : InRange c
 
 -- what stands at place k is "no bound" or such a bound
 pub record RightEntry (n k : ℕ) (c : ℤ) : Type 0 where
@@ -48,25 +32,21 @@ pub record RightEntry (n k : ℕ) (c : ℤ) : Type 0 where
 
 -- each entry is
 pub record RightEntries (n : ℕ) (b : List ℤ) : Type 0 where
-  pub each : (k : ℕ) → k < 289 → RightEntry n k (getD b k (pos 0))
+  pub each : (k : ℕ) → k < 289 → RightEntry n k (entryIn b k)
 
 -- ---- the bounds of one state
 
--- the bounds that are written among the entries, row by row
-unfoldable pub written : List ℤ → List Bound
-written b = collect 289 (λ k. isBound (getD b k (pos 0))) (λ k. record { i = k / 17; j = k % 17; c = getD b k (pos 0) })
-
--- none is
+-- no bound is written
 pub record Empty (b : List ℤ) : Type 0 where
   pub long : length b ≡ 289
-  pub none : (k : ℕ) → k < 289 → getD b k (pos 0) ≡ noBound
+  pub none : (k : ℕ) → k < 289 → entryIn b k ≡ noBound
 
 -- of all the bounds, those in the rest are still to be written, and nothing is written of variables from v on
 pub record Written (all : List Bound) (b : List ℤ) (v : ℕ) (rest : List Bound) : Type 0 where
   pub long : length b ≡ 289
-  pub free : (k : ℕ) → k < 289 → (v ≤ k / 17) ⊎ (v ≤ k % 17) → getD b k (pos 0) ≡ noBound
-  pub to : (x : Bound) → List·Memᴰ x all → List·Memᴰ x (written b) ⊎ List·Memᴰ x rest
-  pub from : (x : Bound) → List·Memᴰ x (written b) ⊎ List·Memᴰ x rest → List·Memᴰ x all
+  pub free : (k : ℕ) → k < 289 → (v ≤ k / 17) ⊎ (v ≤ k % 17) → entryIn b k ≡ noBound
+  pub to : (x : Bound) → List·Memᴰ x all → List·Memᴰ x (boundsIn b) ⊎ List·Memᴰ x rest
+  pub from : (x : Bound) → List·Memᴰ x (boundsIn b) ⊎ List·Memᴰ x rest → List·Memᴰ x all
 
 -- those of n clocks are written, and the rest is to come
 pub record ClocksWritten (cs : List ℕ) (n : ℕ) (b : List ℤ) : Type 0 where
@@ -83,7 +63,3 @@ pub record SmallClocks (cs : List ℕ) : Type 0 where
 -- no job of the first n has more work done, or is older
 pub record SmallJobs (js : List Job) (n : ℕ) : Type 0 where
   pub each : (k : ℕ) → k < n → (getD js k noJob .done ≤ 32000) × (getD js k noJob .age ≤ 32000)
-
--- the task of a job
-abbrev pub taskOf : Job → ℕ
-taskOf j = j .task

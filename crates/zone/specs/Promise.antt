@@ -1,23 +1,24 @@
--- What the zone's functions promise, on every table, order and state.
+-- What the zone's functions promise, on every table, location with a queue order, and state.
 -- Assumes nothing.
 use mathlib.Core.Path.{_≡_}
 use mathlib.Core.Logic.{_↔_}
 use mathlib.Core.List.{List, List·Memᴰ}
-use Prim.Native.Nat.{ℕ, _≤_}
+use Prim.Native.Nat.{ℕ}
 use lib.IntN.{pos}
-use lib.ListN.{getD, take, replicate}
+use lib.ListN.{replicate}
 use Rattle.meaning.specs.Model.{Bound, Model}
 use Rattle.meaning.specs.Machine.State as M
 use Rattle.meaning.specs.Zones.Proper.{Proper}
 use Rattle.meaning.specs.Zones.Zone as Z
 use Rattle.meaning.specs.Zones.Reached.{homeOf}
-use Rattle.meaning.specs.Text.Ranges.{queueMost}
 use Rattle.meaning.specs.Text.Refusals.{notProper}
 use Rattle.meaning.specs.Text.ModelReader.{Given}
 use Rattle.meaning.specs.Text.ModelTable.{decode}
-use Rattle.meaning.specs.Text.RightProposal.{RightOrder}
+use Rattle.home.specs.Stands as H
+use Rattle.home.specs.Stands.{RightHome}
+use Rattle.home.specs.declared.Home.{Home}
 use Rattle.machine.specs.Stands.{stateOf}
-use Rattle.machine.specs.Promise.{Usable}
+use Rattle.machine.specs.Promise.{UsableState}
 use Rattle.machine.specs.declared.State.{State}
 use Rattle.zone.specs.declared.Zone.{Zone}
 use Rattle.zone.specs.declared.Made.{Made}
@@ -25,37 +26,31 @@ use Rattle.zone.specs.Stands.{orderOf, boundsOf, zoneOf, Lendable}
 
 -- ---- what may be asked for
 
--- a location l and a queue order that may be lent as the first n of the cells ts: any other is 13
-pub record RightCells (m : Model) (l : ℕ) (ts : List ℕ) (n : ℕ) : Type 0 where
-  pub few : n ≤ queueMost
-  pub order : RightOrder m l (take n ts)
-  pub unused : (k : ℕ) → n ≤ k → getD ts k 0 ≡ 0
-
--- the table is one that a text gives, and the location and queue order may be lent with it
-pub record UsableOrder (t : List ℕ) (l : ℕ) (ts : List ℕ) (n : ℕ) : Type 0 where
+-- the table is one that a text gives, and the location and queue order may be lent with it: any other is 13
+pub record UsableHome (t : List ℕ) (h : Home) : Type 0 where
   pub given : Given t
-  pub cells : RightCells (decode t) l ts n
+  pub home : RightHome (decode t) h
 
 -- ---- what is made
 
 -- "the widest zone of a location and queue": it "has no bounds", and it holds exactly the proper states of that location and queue
-pub record WidestZone (m : Model) (l : ℕ) (o : List ℕ) (z : Zone) : Type 0 where
+pub record WidestZone (m : Model) (h : Home) (z : Zone) : Type 0 where
   pub lendable : Lendable m z
-  pub is : zoneOf z ≡ Z.widest l o
-  pub holds : (x : M.State) → Z.InZone m (zoneOf z) x ↔ ((homeOf x ≡ record { location = l; order = o }) × Proper m x)
+  pub is : zoneOf z ≡ Z.widest (h .location) (H.orderOf h)
+  pub holds : (x : M.State) → Z.InZone m (zoneOf z) x ↔ ((homeOf x ≡ H.homeOf h) × Proper m x)
 
 -- "the zone that holds exactly one given state": it "has just both bounds of each clock and age against 0, and of each running sum
 -- against the one ahead (the head's against 0)"
 pub record ExactZone (m : Model) (s : M.State) (z : Zone) : Type 0 where
   pub lendable : Lendable m z
-  pub location : z .location ≡ s .location
+  pub location : z .home .location ≡ s .location
   pub order : orderOf z ≡ M.order (s .queue)
   pub bounds : (b : Bound) → List·Memᴰ b (boundsOf z) ↔ List·Memᴰ b (Z.zoneOf s .bounds)
   pub holds : (x : M.State) → Z.InZone m (zoneOf z) x ↔ (x ≡ s)
 
 -- a zone of nothing
 abbrev pub noZone : Zone
-noZone = record { location = 0; tasks = replicate 6 0; count = 0; bounds = replicate 289 (pos 0) }
+noZone = record { home = record { location = 0; tasks = replicate 6 0; count = 0 }; bounds = replicate 289 (pos 0) }
 
 -- refusal 13, and no zone
 pub record NotMade (r : Made) : Type 0 where
@@ -65,11 +60,11 @@ pub record NotMade (r : Made) : Type 0 where
 -- ---- the promises
 
 -- "What isn't proper or names what the model lacks is refused with 13"; else the widest zone
-pub record MadeWidest (t : List ℕ) (l : ℕ) (ts : List ℕ) (n : ℕ) (r : Made) : Type 0 where
-  pub unusable : (UsableOrder t l ts n → ⊥) → NotMade r
-  pub usable : UsableOrder t l ts n → (r .refusal ≡ 0) × WidestZone (decode t) l (take n ts) (r .zone)
+pub record MadeWidest (t : List ℕ) (h : Home) (r : Made) : Type 0 where
+  pub unusable : (UsableHome t h → ⊥) → NotMade r
+  pub usable : UsableHome t h → (r .refusal ≡ 0) × WidestZone (decode t) h (r .zone)
 
 -- the same for the zone of one state
 pub record MadeExact (t : List ℕ) (s : State) (r : Made) : Type 0 where
-  pub unusable : (Usable t s → ⊥) → NotMade r
-  pub usable : Usable t s → (r .refusal ≡ 0) × ExactZone (decode t) (stateOf (decode t) s) (r .zone)
+  pub unusable : (UsableState t s → ⊥) → NotMade r
+  pub usable : UsableState t s → (r .refusal ≡ 0) × ExactZone (decode t) (stateOf (decode t) s) (r .zone)

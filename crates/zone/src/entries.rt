@@ -2,12 +2,12 @@
 ghost use mathlib.Core.Path.{_≡_};
 ghost use mathlib.Core.Logic.{_↔_};
 ghost use mathlib.Core.Bool.{true};
-ghost use Rattle.zone.specs.ByCell.{Small, RightEntry, RightEntries};
+ghost use Rattle.zone.specs.ByCell.{InRange, RightEntry, RightEntries};
 use crate::Zone;
 
 // Is c between -32,000 and 32,000?
 fn in_range(c: i32) -> bool
-    ensures { λ r. ⌜ (r ≡ true) ↔ Small c ⌝ }
+    ensures { λ r. ⌜ (r ≡ true) ↔ InRange c ⌝ }
 {
     if Zone::MOST < c {
         return false;

@@ -1,10 +1,9 @@
 // The bounds of exactly one state: both bounds of each clock and age against 0, and of each running sum against the one ahead.
 ghost use mathlib.Core.Path.{_≡_};
 ghost use Prim.Native.Nat.{_+_, _*_, _≤_, _<_};
-ghost use mathlib.Core.List.{map};
 ghost use lib.IntN.{pos, negℤ};
 ghost use lib.ListN.{set};
-ghost use Rattle.zone.specs.ByCell.{Empty, ClocksWritten, JobsWritten, SmallClocks, SmallJobs, taskOf};
+ghost use Rattle.zone.specs.ByCell.{Empty, ClocksWritten, JobsWritten, SmallClocks, SmallJobs};
 use crate::Zone;
 use machine::Job;
 
@@ -54,20 +53,6 @@ pub(crate) fn with_jobs(bounds: [i32; 289], n: usize, jobs: [Job; 6], count: usi
         both(&mut r, sum + 1, 0, job.age);
         ahead = sum;
         sum += 2;
-        k += 1;
-    }
-    r
-}
-
-// The tasks of the jobs.
-pub(crate) fn tasks_of(jobs: [Job; 6]) -> [u32; 6]
-    ensures { λ r. ⌜ r ≡ map taskOf jobs ⌝ }
-{
-    let mut r = [0u32; 6];
-    let mut k: usize = 0;
-    while k < Zone::QUEUE {
-        let job = jobs[k];
-        r[k] = job.task;
         k += 1;
     }
     r

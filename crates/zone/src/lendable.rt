@@ -2,24 +2,23 @@
 ghost use mathlib.Core.Path.{_≡_};
 ghost use mathlib.Core.Logic.{_↔_};
 ghost use mathlib.Core.Bool.{true};
-ghost use Rattle.meaning.specs.Text.ModelTable.{decode};
 ghost use Rattle.model_table.specs.Right.{RightTable};
+ghost use Rattle.meaning.specs.Text.ModelTable.{decode};
 ghost use Rattle.zone.specs.Stands.{Lendable};
 use crate::Zone;
 use crate::entries::right_entries;
-use crate::order::is_order;
+use home::is_home;
+use home::variables;
 
 // Is it a zone of the model, with bounds of its variables between -32,000 and 32,000, and unused cells 0?
 pub fn is_zone(model: &[u32], zone: Zone) -> bool
     requires { ⌜ RightTable (now model) ⌝ }
     ensures { λ r. ⌜ (r ≡ true) ↔ Lendable (decode (now (model .entry))) zone ⌝ }
 {
-    let location = zone.location;
-    let count = zone.count;
-    let tasks = zone.tasks;
+    let home = zone.home;
     let bounds = zone.bounds;
-    if is_order(model, location, tasks, count) {
-        let n = 1 + model_table::clocks(model) as usize + 2 * (count as usize);
+    if is_home(model, home) {
+        let n = variables(model, home.count as usize);
         return right_entries(&bounds, n);
     }
     false

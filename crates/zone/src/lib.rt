@@ -1,26 +1,22 @@
-// A zone by value: a location, a queue order, and bounds "variable i minus variable j is at most c".
+// A zone by value: a location with a queue order, and bounds "variable i minus variable j is at most c".
 ghost use Rattle.zone.specs.Promise.{MadeWidest, MadeExact};
 
 mod entries;
 mod exact;
-pub mod lendable;
+mod lendable;
 mod making;
-mod order;
 
+use home::Home;
+pub use lendable::is_zone;
 use machine::State;
 use making::exactly_given;
 use making::not_made;
 use making::widest_given;
-use model_text::writing::is_model;
+use model_text::is_model;
 
-// The tasks of a queue, head first, and 0 behind them.
-pub type Tasks = [u32; 6];
-
-// The bound on variable i minus variable j stands at i * 17 + j. Tasks behind the queue are 0, bounds that are not written are `NO_BOUND`.
+// The bound on variable i minus variable j stands at i * 17 + j. Bounds that are not written are `NO_BOUND`.
 pub struct Zone {
-    pub location: u32,
-    pub tasks: Tasks,
-    pub count: u32,
+    pub home: Home,
     pub bounds: [i32; 289],
 }
 
@@ -41,11 +37,11 @@ impl Zone {
     pub const NO_BOUND: i32 = 1_000_000_000;
 
     // The widest zone of a location and queue. 13: the table, the location or the queue can't be lent.
-    pub fn widest(model: &[u32], location: u32, tasks: Tasks, count: u32) -> Made
-        ensures { λ r. ⌜ MadeWidest (now (model .entry)) location tasks count r ⌝ }
+    pub fn widest(model: &[u32], home: Home) -> Made
+        ensures { λ r. ⌜ MadeWidest (now (model .entry)) home r ⌝ }
     {
         if is_model(model) {
-            return widest_given(model, location, tasks, count);
+            return widest_given(model, home);
         }
         not_made()
     }

@@ -1,20 +1,21 @@
 // The zones that are made: the widest of a location and queue, and the one of exactly one state.
-ghost use lib.ListN.{take};
+ghost use Rattle.model_table.specs.Right.{RightTable};
 ghost use Rattle.meaning.specs.Text.ModelTable.{decode};
 ghost use Rattle.machine.specs.Stands as S;
-ghost use Rattle.zone.specs.Promise.{RightCells, WidestZone, ExactZone, NotMade};
+ghost use Rattle.home.specs.Stands.{RightHome};
+ghost use Rattle.zone.specs.Promise.{WidestZone, ExactZone, NotMade};
 ghost use Rattle.zone.specs.ByModel.{WidestOver, ExactOver};
 ghost use Rattle.meaning.specs.Model.{Model};
-ghost use Rattle.model_table.specs.Right.{RightTable};
 use crate::Made;
 use crate::Zone;
 use crate::exact::no_bounds;
 use crate::exact::of_clocks;
-use crate::exact::tasks_of;
 use crate::exact::with_jobs;
-use crate::order::is_order;
+use home::Home;
+use home::is_home;
 use machine::State;
-use machine::judge::is_lendable;
+use machine::is_lendable;
+use machine::tasks_of;
 
 // Refusal 13, and a zone of nothing.
 pub(crate) fn not_made() -> Made
@@ -22,26 +23,21 @@ pub(crate) fn not_made() -> Made
 {
     let tasks = [0u32; 6];
     let bounds = [0i32; 289];
-    let zone = Zone {
+    let home = Home {
         location: 0,
         tasks,
         count: 0,
-        bounds,
     };
+    let zone = Zone { home, bounds };
     Made { refusal: 13, zone }
 }
 
 // The widest zone of a location and queue: it has no bounds.
-pub(crate) fn widest_zone(location: u32, tasks: [u32; 6], count: u32) -> Zone
-    ensures { λ r. ⌜ ((m : Model) → RightCells m location tasks count → WidestZone m location (take count tasks) r) ⌝ }
+pub(crate) fn widest_zone(home: Home) -> Zone
+    ensures { λ r. ⌜ ((m : Model) → RightHome m home → WidestZone m home r) ⌝ }
 {
     let bounds = no_bounds();
-    Zone {
-        location,
-        tasks,
-        count,
-        bounds,
-    }
+    Zone { home, bounds }
 }
 
 // The zone that holds exactly the given state.
@@ -57,21 +53,21 @@ pub(crate) fn exact_zone(model: &[u32], state: State) -> Zone
     let first = of_clocks(clocks, n);
     let bounds = with_jobs(first, n, jobs, count as usize);
     let tasks = tasks_of(jobs);
-    Zone {
+    let home = Home {
         location,
         tasks,
         count,
-        bounds,
-    }
+    };
+    Zone { home, bounds }
 }
 
 // The widest zone, or refusal 13, over a right table.
-pub(crate) fn widest_given(model: &[u32], location: u32, tasks: [u32; 6], count: u32) -> Made
+pub(crate) fn widest_given(model: &[u32], home: Home) -> Made
     requires { ⌜ RightTable (now model) ⌝ }
-    ensures { λ r. ⌜ WidestOver (decode (now (model .entry))) location tasks count r ⌝ }
+    ensures { λ r. ⌜ WidestOver (decode (now (model .entry))) home r ⌝ }
 {
-    if is_order(model, location, tasks, count) {
-        let zone = widest_zone(location, tasks, count);
+    if is_home(model, home) {
+        let zone = widest_zone(home);
         return Made { refusal: 0, zone };
     }
     not_made()

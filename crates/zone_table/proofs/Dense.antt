@@ -64,6 +64,27 @@ module _ {A : Type 0} where
       rw (z, a N l) (ap (λ (xs : List A). xs ++ f N ∷ []) (collect-dense N N p f (omega arith) (λ k i. a k (omega arith)) (λ k i j. absurd (omega arith)))))
       (λ l. rw (b N (omega arith) l, append-nil) (collect-dense N n p f l a (λ k i j. b k (omega arith) j)))
 
+  -- where as many hold as are collected, and these are the first, no other holds
+  collect-more : (n : ℕ) (p : ℕ → Bool) (f : ℕ → A) → length (collect (suc n) p f) ≡ length (collect n p f) + length (pick (p n) (f n ∷ []) [])
+  unfolding collect
+  collect-more n p f = length-append (collect n p f) (pick (p n) (f n ∷ []) [])
+
+  collect-le : (k n : ℕ) (p : ℕ → Bool) (f : ℕ → A) → k ≤ n → length (collect k p f) ≤ length (collect n p f)
+  collect-le k zero p f h = let z : k ≡ 0 = omega arith in rw z (omega arith)
+  collect-le k (suc n) p f h =
+      by-lt k (suc n) (λ l. omega (arith, collect-le k n p f (omega arith), collect-more n p f)) (λ l. let z : k ≡ suc n = omega arith in rw z (omega arith))
+
+  pub collect-front : (N n : ℕ) (p : ℕ → Bool) (f : ℕ → A) → n ≡ length (collect N p f) → ((k : ℕ) → k < n → p k ≡ true) → (k : ℕ) → k < N → n ≤ k → p k ≡ false
+  collect-front N n p f e a k h l = go (p k) refl
+    where
+      go : (b : Bool) → p k ≡ b → p k ≡ false
+      go false i = i
+      go true i =
+          let u = ap length (collect-dense n n p f (omega arith) a (λ x y z. absurd (omega arith))) ∙ dense-length n f in
+          let v = collect-le n k p f l in
+          let w = collect-more k p f ∙ ap (λ (b : Bool). length (collect k p f) + length (pick b (f k ∷ []) [])) i in
+          absurd (omega (arith, u, v, w, collect-le (suc k) N p f (omega arith)))
+
   -- each of what was collected
   each-left : (P : A → Type 0) (xs ys : List A) → Each P (xs ++ ys) → Each P xs
   each-left P [] ys a = tt

@@ -18,7 +18,7 @@ use Rattle.meaning.specs.Text.Lines.{loweredBy}
 use Rattle.meaning.proofs.Numbers.{sum-parts, parts-one}
 use Rattle.meaning.proofs.Text.BoundLaws.{over-of, under-of}
 use Rattle.meaning.proofs.Text.Choices.{by-eq}
-use Rattle.zone.specs.Stands.{noBound}
+use Rattle.zone_bounds.specs.Entries.{noBound}
 use Rattle.zone_table.specs.Read.{entryOfKept}
 
 less-is : (v : ℕ) → 0 < v → pos v -ℤ pos 32001 ≡ loweredBy boundMost (v - 1)

@@ -186,11 +186,10 @@ module _ (t : List ℕ) where
   start-later zero h = absurd (omega arith)
   start-later (suc k) h = let z : suc k - 1 ≡ k = omega arith in rw z
 
-  pub zone-sum : (k from to n a b d : ℕ) → 0 < getD t (zoneSlot k) 0 → from ≡ startIn t k → to ≡ endIn t k → n ≡ to - from
+  pub zone-sum : (k from n a b d : ℕ) → 0 < getD t (zoneSlot k) 0 → from ≡ startIn t k → n ≡ endIn t k - startIn t k
       → a ≡ length (orderText (getD t (zoneSlot k) 0 - 1) (orderIn t k)) → b ≡ length (texts boundText (boundsIn t k))
       → d ≡ length (claimsText (map (λ (x : ℕ). x - 1) (words t (poolStart + from) n))) → a + b + d ≡ length (pick (there t (zoneSlot k)) (zoneText (zoneIn t k)) [])
-  zone-sum k from to n a b d h f g e p q r =
-      let m : n ≡ endIn t k - startIn t k = e ∙ rw (f, g) in
+  zone-sum k from n a b d h f e p q r =
       let w = r ∙ ap (λ (y : ℕ). length (claimsText (map (λ (x : ℕ). x - 1) (words t (poolStart + y) n)))) f
-      ∙ ap (λ (y : ℕ). length (claimsText (map (λ (x : ℕ). x - 1) (words t (poolStart + startIn t k) y)))) m in
+      ∙ ap (λ (y : ℕ). length (claimsText (map (λ (x : ℕ). x - 1) (words t (poolStart + startIn t k) y)))) e in
       omega (arith, is-there (getD t (zoneSlot k) 0) (zoneText (zoneIn t k)) h, zone-parts k, p, q, w)

@@ -5,6 +5,8 @@ pub mod SoundGiven
 pub mod GivenSound
 pub mod Deciding
 pub mod TestLaws
+pub mod ReadLaws
+pub mod ClaimLaws
 pub mod ZoneTests
 pub mod EntryLaws
 pub mod ZoneParts

@@ -1,6 +1,6 @@
 -- What the tests of one zone, and of the whole table, come to.
 -- Assumes nothing.
-use Prim.Native.Nat.{ℕ, _+_, _-_, _*_, _≤_, _<_}
+use Prim.Native.Nat.{ℕ, suc, _+_, _-_, _*_, _≤_, _<_}
 use mathlib.Core.Path.{_≡_, sym, _∙_, ap, subst}
 use mathlib.Core.Logic.{_↔_}
 use mathlib.Core.Bool.{Bool, true, false}
@@ -8,12 +8,10 @@ use mathlib.Core.List.{List, map}
 use native.Mathlib.Omega.{arith}
 use lib.ListN.{length, getD}
 use Rattle.meaning.specs.Model.{Model}
-use Rattle.meaning.specs.Zones.Proper.{fits}
 use Rattle.meaning.specs.Zones.Variables.{variables}
 use Rattle.meaning.specs.Zones.Steps.{steps}
-use Rattle.meaning.specs.Zones.Zone.{widest}
+use Rattle.meaning.specs.Zones.Reached as Z
 use Rattle.meaning.specs.Text.Ranges.{textMost}
-use Rattle.meaning.specs.Text.ModelTable.{clocks, tasks, locations}
 use Rattle.meaning.specs.Text.ModelTable as model
 use Rattle.meaning.specs.Text.ModelReader.{words}
 use Rattle.meaning.specs.Text.RightProposal.{zeroDue, zerosAt}
@@ -21,58 +19,23 @@ use Rattle.meaning.specs.Text.ProposalReader.{Given}
 use Rattle.meaning.specs.Text.ProposalText.{proposalText}
 use Rattle.meaning.specs.Text.ProposalTable.{size, poolStart, poolSize, startIn, endIn, orderIn, claimsIn, zoneIn, decode}
 use Rattle.model_table.specs.Right.{RightTable}
-use Rattle.model_table.proofs.PartLaws.{clocks-is, tasks-is, locations-is}
-use Rattle.steps.specs.declared.claims.Steps.{Steps}
-use Rattle.steps.specs.Counted.{numbersIn, headIn, StepsAre}
-use Rattle.zone_table.specs.Sound.{zonesIn, queueIn, TaskFits, BoundFits, SoundOrder, SoundClaims, SoundZone, SoundPool, Unused, Sound}
+use Rattle.home.specs.declared.Home.{Home}
+use Rattle.home.specs.Stands.{homeOf}
+use Rattle.zone_list.specs.declared.form.Steps.{Steps}
+use Rattle.zone_list.specs.Steps.{listAt}
+use Rattle.zone_list.specs.Counted.{numbersIn, zerosKept, StepsAre}
+use Rattle.zone_table.specs.Sound.{zonesIn, queueIn, BoundFits, SoundOrder, SoundClaims, SoundZone, SoundPool, Unused, Sound}
+use Rattle.zone_table.specs.Read.{HomeRead}
 use Rattle.zone_table.proofs.Deciding.{ruled-out, same-test}
-use Rattle.zone_table.proofs.TestLaws.{bounds-right, bounds-fit, order-row, order-right}
+use Rattle.zone_table.proofs.TestLaws.{bounds-right, bounds-fit}
+use Rattle.zone_table.proofs.ReadLaws.{home-is}
 use Rattle.zone_table.proofs.GivenSound.{given-sound}
 
 module _ (u : List ℕ) (g : RightTable u) where
   abbrev m : Model
   m = model.decode u
 
-  pub tasks-few : tasks u ≤ 6
-  tasks-few = let h = g .right .tasks-high in omega (arith, tasks-is u g)
-
-  pub clocks-few : clocks u ≤ 4
-  clocks-few = let h = g .right .clocks in omega (arith, clocks-is u g)
-
   module _ (t : List ℕ) (k : ℕ) where
-    abbrev Tasks : ℕ → ℕ → Type 0
-    Tasks n q = (x : ℕ) → x < 6 → TaskFits n q x (getD t (8 * k + 1 + x) 0)
-
-    -- ---- the location and the queue
-
-    pub order-low : (v : ℕ) → v ≡ getD t (8 * k) 0 → v < 2 → SoundOrder m t k → ⊥
-    order-low v e h s = let w = s .order .low in omega arith
-
-    pub order-high : (v l : ℕ) → v ≡ getD t (8 * k) 0 → l ≡ locations u → l < v - 1 → SoundOrder m t k → ⊥
-    order-high v l e f h s = let w = s .order .high in omega (arith, locations-is u g)
-
-    tasks-as : (n q : ℕ) → n ≡ tasks u → q ≡ queueIn t k → Tasks n q → Tasks (length (m .tasks)) (queueIn t k)
-    tasks-as n q e f h = rw (sym (tasks-is u g), sym e, sym f) h
-
-    tasks-so : (n q : ℕ) → n ≡ tasks u → q ≡ queueIn t k → Tasks (length (m .tasks)) (queueIn t k) → Tasks n q
-    tasks-so n q e f h = rw (f, e, tasks-is u g) h
-
-    pub order-tasks : (n q : ℕ) (r : Bool) → n ≡ tasks u → q ≡ queueIn t k → (r ≡ true) ↔ Tasks n q → r ≡ false → SoundOrder m t k → ⊥
-    order-tasks n q r e f d h s = ruled-out r d h (tasks-so n q e f (s .queue))
-
-    row-is : (q : ℕ) → q ≡ queueIn t k → Tasks (length (m .tasks)) (queueIn t k) → numbersIn t (8 * k + 1) q ≡ orderIn t k
-    unfolding numbersIn
-    row-is q e h = ap (λ (n : ℕ). map (λ (x : ℕ). x - 1) (words t (8 * k + 1) n)) e ∙ sym (order-row t k m h)
-
-    pub order-test : (v l n q : ℕ) (r s : Bool) → v ≡ getD t (8 * k) 0 → 2 ≤ v → l ≡ locations u → v - 1 ≤ l → n ≡ tasks u → q ≡ queueIn t k → (r ≡ true) ↔ Tasks n q → r ≡ true
-        → ((z : Model) → s ≡ fits z (numbersIn t (8 * k + 1) q)) → (s ≡ true) ↔ SoundOrder m t k
-    unfolding numbersIn
-    order-test v l n q r s e a f b i j d h y =
-        let w = tasks-as n q i j (d .0 h) in (
-          (λ p. order-right t k m (omega arith) (omega (arith, locations-is u g)) w (ap (λ (c : ℕ). fits m (map (λ (x : ℕ). x - 1) (words t (8 * k + 1) c))) (sym j) ∙ sym (y m) ∙ p)),
-          (λ o. y m ∙ ap (fits m) (row-is q j w) ∙ o .order .fit),
-        )
-
     -- ---- the claims
 
     pub claims-most : (to : ℕ) → to ≡ getD t (8 * k + 7) 0 → poolSize < to → SoundClaims m t k → ⊥
@@ -81,25 +44,25 @@ module _ (u : List ℕ) (g : RightTable u) where
     pub claims-end : (from to : ℕ) → from ≡ startIn t k → to ≡ getD t (8 * k + 7) 0 → to < from → SoundClaims m t k → ⊥
     claims-end from to e f h s = let w = s .ends in omega arith
 
-    module _ (s : SoundOrder m t k) (q at : ℕ) (j : q ≡ queueIn t k) (r : Steps) (w : StepsAre m (headIn t k q) t at r) where
+    module _ (s : SoundOrder m t k) (h : Home) (w : HomeRead t k (queueIn t k) h) (at : ℕ) (r : Steps) (v : StepsAre m (homeOf h) t at r) where
       many-is : r .many ≡ length (steps m (zoneIn t k))
       unfolding zoneIn
-      many-is = w .many ∙ ap (λ (o : List ℕ). length (steps m (widest (getD t (8 * k) 0 - 1) o))) (row-is q j (s .queue))
+      many-is = v .many ∙ ap (λ (o : Z.Home). length (listAt m o)) (home-is m t k h w s)
 
       zeros-is : at ≡ poolStart + startIn t k → endIn t k - startIn t k ≡ r .many → r .zeros ≡ zerosAt (zeroDue m (zoneIn t k)) (steps m (zoneIn t k)) (claimsIn t k)
       unfolding zoneIn claimsIn numbersIn
       zeros-is a b =
-          w .zeros
-          ∙ ap (λ (o : List ℕ). zerosAt (zeroDue m (widest (getD t (8 * k) 0 - 1) o)) (steps m (widest (getD t (8 * k) 0 - 1) o)) (map (λ (x : ℕ). x - 1) (words t at (length (steps m (widest (getD t (8 * k) 0 - 1) o)))))) (row-is q j (s .queue))
+          v .zeros
+          ∙ ap (λ (o : Z.Home). zerosKept m o t at) (home-is m t k h w s)
           ∙ ap (λ (n : ℕ). zerosAt (zeroDue m (zoneIn t k)) (steps m (zoneIn t k)) (map (λ (x : ℕ). x - 1) (words t at n))) (sym (b ∙ many-is))
           ∙ ap (λ (i : ℕ). zerosAt (zeroDue m (zoneIn t k)) (steps m (zoneIn t k)) (map (λ (x : ℕ). x - 1) (words t i (endIn t k - startIn t k)))) a
 
       module _ (from to : ℕ) (e : from ≡ startIn t k) (f : to ≡ getD t (8 * k + 7) 0) where
         pub claims-many : (r .many ≡ to - from → ⊥) → SoundClaims m t k → ⊥
-        claims-many h c = let i = c .many in h (omega (arith, many-is))
+        claims-many z c = let i = c .many in z (omega (arith, many-is))
 
         pub claims-test : at ≡ poolStart + from → from ≤ to → to ≤ poolSize → r .many ≡ to - from → (r .zeros ≡ true) ↔ SoundClaims m t k
-        claims-test a b d h =
+        claims-test a b d i =
             let z = zeros-is (a ∙ rw e) (omega arith) in (
               (λ p. record { ends = omega arith; most = omega arith; many = omega (arith, many-is); zeros = sym z ∙ p }),
               (λ c. z ∙ c .zeros),
@@ -107,15 +70,15 @@ module _ (u : List ℕ) (g : RightTable u) where
 
     -- ---- the zone
 
-    module _ (n q : ℕ) (e : n ≡ clocks u) (f : q ≡ queueIn t k) (r : Bool) (d : (r ≡ true) ↔ ((x : ℕ) → x < 289 → BoundFits (n + 2 * q) x (getD t (384 + 289 * k + x) 0))) where
-      last-is : n + 2 * q ≡ variables m (orderIn t k) - 1
-      last-is = omega (arith, clocks-is u g)
+    module _ (n q : ℕ) (e : n ≡ suc (m .clocks + (q + q))) (f : q ≡ queueIn t k) (r : Bool) (d : (r ≡ true) ↔ ((x : ℕ) → x < 289 → BoundFits (n - 1) x (getD t (384 + 289 * k + x) 0))) where
+      last-is : n - 1 ≡ variables m (orderIn t k) - 1
+      last-is = omega arith
 
       pub zone-bounds : r ≡ false → SoundZone m t k → ⊥
-      zone-bounds h s = ruled-out r d h (bounds-fit t k (n + 2 * q) m last-is (s .bounds))
+      zone-bounds h s = ruled-out r d h (bounds-fit t k (n - 1) m last-is (s .bounds))
 
       pub zone-test : (p s : Bool) → (p ≡ true) ↔ SoundOrder m t k → p ≡ true → r ≡ true → (s ≡ true) ↔ SoundClaims m t k → (s ≡ true) ↔ SoundZone m t k
-      zone-test p s a b h y = same-test s y (λ c. record { order = a .0 b; bounds = bounds-right t k (n + 2 * q) m last-is (d .0 h); claims = c }) (λ z. z .claims)
+      zone-test p s a b h y = same-test s y (λ c. record { order = a .0 b; bounds = bounds-right t k (n - 1) m last-is (d .0 h); claims = c }) (λ z. z .claims)
 
   -- ---- the whole table
 

@@ -1,11 +1,11 @@
 // How many zones a proposal's table has, and how many tasks a zone's queue.
-// Assumes nothing.
 ghost use mathlib.Core.Path.{_≡_};
-ghost use Prim.Native.Nat.{ℕ, _+_, _*_, _≤_, _<_};
+ghost use Prim.Native.Nat.{_-_, _≤_};
 ghost use Rattle.meaning.specs.Text.Choice.{pick};
 ghost use Rattle.meaning.specs.Text.ModelTable.{count, there};
 ghost use Rattle.zone_table.specs.Sound.{zonesIn, queueIn};
-use model_table::cells::cell;
+use crate::starts::head_start;
+use model_table::cell;
 
 // 1 if something is in the cell, else 0.
 fn one_if(zones: &[u32], at: usize) -> u32
@@ -37,10 +37,10 @@ pub fn zones(zones: &[u32]) -> u32
     count_from(zones, 0, 8, 48)
 }
 
-// How many tasks the queue of zone k + 1 has.
-pub(crate) fn queue_at(zones: &[u32], k: usize) -> u32
-    requires { ⌜ k < 48 ⌝ }
-    ensures { λ r. ⌜ (r ≡ queueIn (now (zones .entry)) k) × (r ≤ 6) ⌝ }
+// How many tasks the queue of a zone has.
+pub(crate) fn queued(zones: &[u32], zone: u32) -> u32
+    requires { ⌜ (1 ≤ zone) × (zone ≤ 48) ⌝ }
+    ensures { λ r. ⌜ (r ≡ queueIn (now (zones .entry)) (zone - 1)) × (r ≤ 6) ⌝ }
 {
-    count_from(zones, 8 * k + 1, 1, 6)
+    count_from(zones, head_start(zone) + 1, 1, 6)
 }

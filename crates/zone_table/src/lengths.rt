@@ -1,8 +1,7 @@
 // How long the text of a proposal's table is, line by line.
-// Assumes nothing.
 ghost use mathlib.Core.Path.{_≡_};
-ghost use mathlib.Core.List.{List, [], map};
-ghost use Prim.Native.Nat.{ℕ, _+_, _-_, _*_, _≤_, _<_};
+ghost use mathlib.Core.List.{[], map};
+ghost use Prim.Native.Nat.{ℕ, _+_, _-_, _*_, _≤_};
 ghost use lib.Dec.{ltb};
 ghost use lib.ListN.{length, getD};
 ghost use Rattle.meaning.specs.Text.Choice.{pick};
@@ -11,26 +10,26 @@ ghost use Rattle.meaning.specs.Text.Lines.{keptText};
 ghost use Rattle.meaning.specs.Text.ModelText.{texts};
 ghost use Rattle.meaning.specs.Text.ModelTable.{there};
 ghost use Rattle.meaning.specs.Text.ModelReader.{words};
-ghost use Rattle.meaning.specs.Text.ProposalTable.{zoneSlot, orderSlot, endSlot, poolStart, startIn, orderIn, boundsIn, zoneIn, decode};
+ghost use Rattle.meaning.specs.Text.ProposalTable.{zoneSlot, poolStart, orderIn, boundsIn, zoneIn, decode};
 ghost use Rattle.meaning.specs.Text.ProposalText.{orderText, boundText, claimsText, zoneText, proposalText};
 ghost use Rattle.zone_table.specs.Kept.{fieldText, keptBound};
-use model_table::cells::cell;
-use model_table::cells::less_one;
+use crate::pool::claims;
+use crate::starts::POOL_START;
+use crate::starts::bounds_start;
+use crate::starts::claims_start;
+use crate::starts::head_start;
+use model_table::cell;
+use model_table::less_one;
 
 // What is added to c of a bound, so that it is kept as a number that is not below 0.
 const BELOW: u32 = 32000;
 
 // How many zones, how many tasks of a queue, and how many cells of a zone's bounds there may be.
-const ZONES_MOST: usize = 48;
+const ZONES_MOST: u32 = 48;
 
 const QUEUE_MOST: usize = 6;
 
 const BOUNDS: usize = 289;
-
-// Where the bounds and the claims begin.
-const BOUNDS_START: usize = 384;
-
-const POOL_START: usize = 14256;
 
 // How many digits a number has.
 fn digits(v: u32) -> usize
@@ -70,14 +69,15 @@ fn task_length(v: u32) -> usize
 }
 
 // The line of a zone's location and tasks.
-fn order_length(zones: &[u32], k: usize) -> usize
-    requires { ⌜ k < 48 ⌝ }
-    ensures { λ r. ⌜ (r ≡ length (orderText (getD (now (zones .entry)) (zoneSlot k) 0 - 1) (orderIn (now (zones .entry)) k))) × (r ≤ 59) ⌝ }
+fn order_length(zones: &[u32], zone: u32) -> usize
+    requires { ⌜ (1 ≤ zone) × (zone ≤ 48) ⌝ }
+    ensures { λ r. ⌜ (r ≡ length (orderText (getD (now (zones .entry)) (zoneSlot (zone - 1)) 0 - 1) (orderIn (now (zones .entry)) (zone - 1)))) × (r ≤ 59) ⌝ }
 {
-    let mut n = 4 + kept_length(0, less_one(cell(zones, 8 * k)));
+    let from = head_start(zone);
+    let mut n = 4 + kept_length(0, less_one(cell(zones, from)));
     let mut x: usize = 0;
     while x < QUEUE_MOST {
-        n += task_length(cell(zones, 8 * k + 1 + x));
+        n += task_length(cell(zones, from + 1 + x));
         x += 1;
     }
     n
@@ -95,14 +95,15 @@ fn bound_length(i: u32, j: u32, v: u32) -> usize
 }
 
 // The lines of a zone's bounds.
-fn bounds_length(zones: &[u32], k: usize) -> usize
-    requires { ⌜ k < 48 ⌝ }
-    ensures { λ r. ⌜ (r ≡ length (texts boundText (boundsIn (now (zones .entry)) k))) × (r ≤ 27 * 289) ⌝ }
+fn bounds_length(zones: &[u32], zone: u32) -> usize
+    requires { ⌜ (1 ≤ zone) × (zone ≤ 48) ⌝ }
+    ensures { λ r. ⌜ (r ≡ length (texts boundText (boundsIn (now (zones .entry)) (zone - 1)))) × (r ≤ 27 * 289) ⌝ }
 {
+    let from = bounds_start(zone);
     let mut n: usize = 0;
     let mut x: usize = 0;
     while x < BOUNDS {
-        let v = cell(zones, BOUNDS_START + 289 * k + x);
+        let v = cell(zones, from + x);
         n += bound_length((x / 17) as u32, (x % 17) as u32, v);
         x += 1;
     }
@@ -123,36 +124,17 @@ fn claims_length(zones: &[u32], from: u32, n: u32) -> usize
     l
 }
 
-// Where the claims of zone k + 1 begin in the pool.
-pub fn start(zones: &[u32], k: usize) -> u32
-    requires { ⌜ k < 48 ⌝ }
-    ensures { λ r. ⌜ r ≡ startIn (now (zones .entry)) k ⌝ }
+// The lines of a zone, where there is one.
+fn zone_length(zones: &[u32], zone: u32) -> usize
+    requires { ⌜ (1 ≤ zone) × (zone ≤ 48) ⌝ }
+    ensures { λ r. ⌜ (r ≡ length (pick (there (now (zones .entry)) (zoneSlot (zone - 1))) (zoneText (zoneIn (now (zones .entry)) (zone - 1))) [])) × (r ≤ 34359800000) ⌝ }
 {
-    if k == 0 {
-        0
-    } else {
-        cell(zones, 8 * (k - 1) + 7)
-    }
-}
-
-// How many numbers there are from a up to before b.
-pub fn distance(a: u32, b: u32) -> u32
-    ensures { λ r. ⌜ r ≡ b - a ⌝ }
-{
-    if a < b { b - a } else { 0 }
-}
-
-// The lines of zone k + 1, where there is one.
-fn zone_length(zones: &[u32], k: usize) -> usize
-    requires { ⌜ k < 48 ⌝ }
-    ensures { λ r. ⌜ (r ≡ length (pick (there (now (zones .entry)) (zoneSlot k)) (zoneText (zoneIn (now (zones .entry)) k)) [])) × (r ≤ 34359800000) ⌝ }
-{
-    if cell(zones, 8 * k) == 0 {
+    if cell(zones, head_start(zone)) == 0 {
         return 0;
     }
-    let from = start(zones, k);
-    let n = distance(from, cell(zones, 8 * k + 7));
-    order_length(zones, k) + bounds_length(zones, k) + claims_length(zones, from, n)
+    let from = claims_start(zones, zone);
+    let n = claims(zones, zone);
+    order_length(zones, zone) + bounds_length(zones, zone) + claims_length(zones, from, n)
 }
 
 // The whole text.
@@ -160,10 +142,10 @@ pub fn text_length(zones: &[u32]) -> usize
     ensures { λ r. ⌜ r ≡ length (proposalText (decode (now (zones .entry)))) ⌝ }
 {
     let mut n: usize = 0;
-    let mut k: usize = 0;
+    let mut k: u32 = 0;
     while k < ZONES_MOST {
-        n += zone_length(zones, k);
         k += 1;
+        n += zone_length(zones, k);
     }
     n + 3
 }

@@ -230,7 +230,7 @@ module _ (b : List ℕ) (at : ℕ) (cs : List ℕ) (h : at + length (claimsText 
 
 -- ---- the lines of a zone
 
-module _ (t b : List ℕ) (at k from to n : ℕ) (s : 0 < getD t (zoneSlot k) 0) (e : from ≡ startIn t k) (f : to ≡ endIn t k) (g : n ≡ to - from)
+module _ (t b : List ℕ) (at k from n : ℕ) (s : 0 < getD t (zoneSlot k) 0) (e : from ≡ startIn t k) (g : n ≡ endIn t k - startIn t k)
     (h : at + length (pick (there t (zoneSlot k)) (zoneText (zoneIn t k)) []) ≤ length b) where
   abbrev order : List ℕ
   order = orderText (getD t (zoneSlot k) 0 - 1) (orderIn t k)
@@ -243,7 +243,7 @@ module _ (t b : List ℕ) (at k from to n : ℕ) (s : 0 < getD t (zoneSlot k) 0)
 
   zone-text : pick (there t (zoneSlot k)) (zoneText (zoneIn t k)) [] ≡ order ++ (bounds ++ claims)
   unfolding zoneText zoneIn claimsIn
-  zone-text = there-is (getD t (zoneSlot k) 0) (zoneText (zoneIn t k)) s ∙ rw (g, f, e)
+  zone-text = there-is (getD t (zoneSlot k) 0) (zoneText (zoneIn t k)) s ∙ rw (g, e)
 
   zone-room : at + length (order ++ (bounds ++ claims)) ≤ length b
   zone-room = subst (λ (xs : List ℕ). at + length xs ≤ length b) zone-text h

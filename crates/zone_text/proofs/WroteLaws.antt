@@ -17,17 +17,17 @@ use Rattle.meaning.proofs.Text.Choices.{by-lt, nonsense}
 use Rattle.meaning.proofs.Text.ModelTheorems as theorems
 use Rattle.meaning.proofs.Text.ProposalTheorems.{proposal-given-iff}
 use Rattle.lines.specs.Put.{Put}
-use Rattle.zone_text.specs.Wrote.{written, GivenBoth, textOf, Wrote}
+use Rattle.zone_text.specs.Wrote.{written, GivenBoth, textOf, WroteProposal}
 use Rattle.zone_text.specs.Over.{WroteOver}
 use Rattle.zone_text.specs.declared.writing.Written.{Written}
 use Rattle.zone_text.specs.declared.writing.Written.the-variants.{Done, Refused}
 
 module _ (u t b : List ℕ) where
-  pub wrote-none : (GivenBoth u t → ⊥) → Wrote u t b (Refused 13 0) b
+  pub wrote-none : (GivenBoth u t → ⊥) → WroteProposal u t b (Refused 13 0) b
   wrote-none n = record { none = λ h. (refl, refl); short = λ g h. absurd (n g); text = λ g h. absurd (n g) }
 
   -- over a model's table that a text gives
-  pub wrote-over : reader.Given u → (r : Written) (c : List ℕ) → WroteOver (parts.decode u) t b r c → Wrote u t b r c
+  pub wrote-over : reader.Given u → (r : Written) (c : List ℕ) → WroteOver (parts.decode u) t b r c → WroteProposal u t b r c
   wrote-over g r c w = record {
     none = λ h. w .none (λ v. h (record { model = g; table = v }));
     short = λ v. w .short (v .table);
@@ -84,7 +84,7 @@ written-one (Refused k p) (Refused l q) e =
     let y : p ≡ q = cc in
     ap₂ (λ (i j : ℕ). Refused i j) x y
 
-pub write-once : (u t b c d : List ℕ) (r s : Written) → Wrote u t b r c → Wrote u t b s d → (r ≡ s) × (c ≡ d)
+pub write-once : (u t b c d : List ℕ) (r s : Written) → WroteProposal u t b r c → WroteProposal u t b s d → (r ≡ s) × (c ≡ d)
 write-once u t b c d r s v w = go (both-dec u t)
   where
     join : {x : Answer ℕ} {y : List ℕ} → (written r ≡ x) × (c ≡ y) → (written s ≡ x) × (d ≡ y) → (r ≡ s) × (c ≡ d)

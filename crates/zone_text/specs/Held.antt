@@ -1,22 +1,22 @@
 -- What was read so far, as the code has it, and what a record makes of it.
 -- Assumes nothing.
-use Prim.Native.Nat.{ℕ, suc, _+_, _*_, _≤_, _<_}
+use Prim.Native.Nat.{ℕ, suc, _+_, _-_, _*_, _≤_, _<_}
 use mathlib.Core.Path.{_≡_}
 use mathlib.Core.Bool.{true, false}
 use mathlib.Core.List.{List, [], _∷_}
-use lib.ListN.{length}
+use lib.ListN.{length, getD}
 use Rattle.meaning.specs.Model.{Bound, Model}
-use Rattle.meaning.specs.Zones.Zone.{Zone}
 use Rattle.meaning.specs.Text.Ranges.{textMost, zonesMost}
 use Rattle.meaning.specs.Text.RecordRow.{Met, next, closed, wrong}
 use Rattle.meaning.specs.Text.RightModel.{Each}
 use Rattle.meaning.specs.Text.RightProposal.{RightOrder, RightBounds, RightZone}
-use Rattle.meaning.specs.Text.ProposalTable.{size, allClaims, encode}
+use Rattle.meaning.specs.Text.ProposalTable.{size, zoneSlot, orderSlot, allClaims, encode}
 use Rattle.meaning.specs.Text.ProposalReader.{Entry, whole, begun, put, proposalOf}
 use Rattle.meaning.specs.Text.ProposalReader as reader
+use Rattle.zone_list.specs.Counted.{numbersIn}
 use Rattle.zone_text.specs.declared.reading_records.Sofar.{Sofar}
-use Rattle.zone_text.specs.declared.reading_records.Step.{Step}
-use Rattle.zone_text.specs.declared.reading_records.Step.the-variants.{Next, End, Fault}
+use Rattle.zone_text.specs.declared.reading_records.Taken.{Taken}
+use Rattle.zone_text.specs.declared.reading_records.Taken.the-variants.{Next, End, Fault}
 
 -- the zones that were read are those that a text can say, but for claims above the last zone
 abbrev pub Sound : Model → reader.Sofar → Type 0
@@ -52,8 +52,12 @@ pub record Ready (c : Sofar) (s : List ℕ) (at : ℕ) (t : List ℕ) : Type 0 w
   pub len : c .len ≤ 6
   pub pool : c .pool ≤ 226 * c .zones
 
+-- of the zone that is begun, the table has a location and a queue order that a text can say
+pub record Begun (m : Model) (c : Sofar) (t : List ℕ) : Type 0 where
+  pub order : c .due ≡ true → RightOrder m (getD t (zoneSlot (c .zones)) 0 - 1) (numbersIn t (orderSlot (c .zones)) (c .len))
+
 -- what stands after y was read, the answer r, and the table before and after it
-abbrev pub Took : Met Entry → reader.Sofar → Step → List ℕ → List ℕ → Type 0
+abbrev pub Took : Met Entry → reader.Sofar → Taken → List ℕ → List ℕ → Type 0
 Took (next w k) y r t t′ = (c : Sofar) × (r ≡ Next k c) × Stands (put y w) c × (t′ ≡ encode (proposalOf (put y w)))
 Took closed y r t t′ = (r ≡ End) × (t′ ≡ t)
 Took (wrong n p) y r t t′ = (r ≡ Fault n p)

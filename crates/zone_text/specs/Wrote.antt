@@ -31,7 +31,7 @@ textOf t = proposalText (decode t)
 
 -- "tables that no text within 1 gives": 13; then "lent text buffer too short to write into": 11; a refusal leaves the buffer b as it was, and so are
 -- the bytes behind the text. The model's table u, the table t, the buffer before and after, and the answer r.
-pub record Wrote (u t b : List ℕ) (r : Written) (b′ : List ℕ) : Type 0 where
+pub record WroteProposal (u t b : List ℕ) (r : Written) (b′ : List ℕ) : Type 0 where
   pub none : (GivenBoth u t → ⊥) → (written r ≡ refused notProper 0) × (b′ ≡ b)
   pub short : GivenBoth u t → length b < length (textOf t) → (written r ≡ refused wrongRoom 0) × (b′ ≡ b)
   pub text : GivenBoth u t → length (textOf t) ≤ length b → (written r ≡ done (length (textOf t))) × (b′ ≡ sets b 0 (textOf t))

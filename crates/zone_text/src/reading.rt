@@ -1,5 +1,4 @@
 // The reader of a proposal's text.
-// Assumes nothing.
 ghost use mathlib.Core.Path.{_≡_};
 ghost use mathlib.Core.Bool.{true};
 ghost use Prim.Native.Nat.{_≤_};
@@ -7,16 +6,14 @@ ghost use lib.ListN.{length, replicate};
 ghost use Rattle.meaning.specs.Text.Ranges.{textMost};
 ghost use Rattle.meaning.specs.Text.RecordRow as row;
 ghost use Rattle.meaning.specs.Text.ModelTable.{decode};
+ghost use Rattle.model_table.specs.Right.{RightTable};
 ghost use Rattle.meaning.specs.Text.ProposalTable.{size};
 ghost use Rattle.meaning.specs.Text.ProposalReader as reader;
 ghost use Rattle.meaning.specs.Text.ProposalReader.{readProposal, stored};
-ghost use Rattle.model_table.specs.Right.{RightTable};
 ghost use Rattle.zone_text.specs.Meant.{Answered, ReadOver};
 use crate::reading_records;
 use crate::reading_records::Sofar;
-use crate::reading_records::Step;
-use lines::stops;
-use model_text::writing;
+use crate::reading_records::Taken;
 
 // What a reader answers: done, with what it has read in the lent table; or a refusal number and its place.
 pub enum Read {
@@ -55,14 +52,14 @@ fn read_records(model: &[u32], s: &[u8], t: &mut [u32]) -> Read
     };
     loop {
         match reading_records::take(model, s, at, x, t) {
-            Step::Next(next, y) => {
+            Taken::Next(next, y) => {
                 at = next;
                 x = y;
             }
-            Step::End => {
+            Taken::End => {
                 return Read::Done;
             }
-            Step::Fault(k, p) => {
+            Taken::Fault(k, p) => {
                 clear(t);
                 return Read::Refused(k, p);
             }
@@ -82,7 +79,7 @@ pub(crate) fn read_given(model: &[u32], text: &[u8], table: &mut [u32]) -> Read
     if TEXT_MOST < text.len() {
         return Read::Refused(1, TEXT_MOST);
     }
-    let p = stops::first_stop(text);
+    let p = lines::first_stop(text);
     if p < text.len() {
         return Read::Refused(2, p);
     }
@@ -93,7 +90,7 @@ pub(crate) fn read_given(model: &[u32], text: &[u8], table: &mut [u32]) -> Read
 pub fn read_proposal(model: &[u32], text: &[u8], table: &mut [u32]) -> Read
     ensures { λ r. ⌜ ReadOver (now (model .entry)) (now (text .entry)) (now (table .entry)) r (now (table .exit)) ⌝ }
 {
-    if !writing::is_model(model) {
+    if !model_text::is_model(model) {
         clear(table);
         return Read::Refused(13, 0);
     }

@@ -1,24 +1,23 @@
 // One record, from the text into the table.
-// Assumes nothing.
-ghost use mathlib.Core.Path.{_≡_};
-ghost use Prim.Native.Nat.{ℕ, _+_, _≤_};
-ghost use lib.ListN.{length};
+ghost use Prim.Native.Nat.{_+_};
 ghost use Rattle.meaning.specs.Model.{Model};
 ghost use Rattle.meaning.specs.Text.ModelTable.{decode};
+ghost use Rattle.model_table.specs.Right.{RightTable};
 ghost use Rattle.meaning.specs.Text.ProposalReader as reader;
 ghost use Rattle.meaning.specs.Text.ProposalReader.{look, lookOrder, lookBound, lookClaims, lookEnd};
-ghost use Rattle.model_table.specs.Right.{RightTable};
-ghost use Rattle.zone_text.specs.Held.{Holds, Ready, Took};
+ghost use Rattle.zone_text.specs.Held.{Holds, Ready, Begun, Took};
 use crate::reading_marks;
 use crate::reading_rows;
-use lines::places;
-use model_table::counts;
-use steps::claims;
+use zone_table::POOL_START;
+use zone_table::bounds_start;
+use zone_table::head_start;
+use zone_table::home_with;
+use zone_table::up_to_last;
 
 // What was read so far: how many zones are whole; whether one is begun, whose GO is due, with how many tasks in its queue, and the first place in
 // its bounds at which the next may stand; how many claims there are in all.
 pub(crate) struct Sofar {
-    pub zones: usize,
+    pub zones: u32,
     pub due: bool,
     pub len: usize,
     pub cursor: usize,
@@ -26,40 +25,43 @@ pub(crate) struct Sofar {
 }
 
 // What became of a record: the place after it and what was read with it; the text's end; or a refusal and its place.
-pub(crate) enum Step {
+pub(crate) enum Taken {
     Next(usize, Sofar),
     End,
     Fault(u32, usize),
 }
 
 // ZN: a location and its queue.
-fn take_order(model: &[u32], s: &[u8], at: usize, x: Sofar, t: &mut [u32]) -> Step
+fn take_order(model: &[u32], s: &[u8], at: usize, x: Sofar, t: &mut [u32]) -> Taken
     requires { ⌜ RightTable (now model) × Ready x (now s) at (now t) ⌝ }
     ensures { λ r. ⌜ ((y : reader.Sofar) → Holds (decode (now (model .entry))) y x (now (t .entry)) → Took (lookOrder (decode (now (model .entry))) (now (s .entry)) at y) y r (now (t .entry)) (now (t .exit))) ⌝ }
 {
     if x.due {
-        return Step::Fault(3, at);
+        return Taken::Fault(3, at);
     }
     if 48 <= x.zones {
-        return Step::Fault(10, at);
+        return Taken::Fault(10, at);
     }
-    let q = 8 * x.zones;
+    let zone = x.zones + 1;
+    let q = head_start(zone);
     let r = reading_rows::read_order(
         s,
         at + 2,
-        counts::locations(model),
-        counts::tasks(model),
+        model_table::locations(model),
+        model_table::tasks(model),
         t,
         q,
     );
     if 0 < r.refusal {
-        return Step::Fault(r.refusal, r.at);
+        return Taken::Fault(r.refusal, r.at);
     }
-    if !claims::fit(t, q + 1, r.many) {
-        return Step::Fault(6, at);
+    let home = home_with(t, zone, r.many as u32);
+    let tasks = home.tasks;
+    if !home::fits(model, tasks, r.many) {
+        return Taken::Fault(6, at);
     }
     t[q + 7] = x.pool as u32;
-    Step::Next(
+    Taken::Next(
         r.at,
         Sofar {
             zones: x.zones,
@@ -72,33 +74,33 @@ fn take_order(model: &[u32], s: &[u8], at: usize, x: Sofar, t: &mut [u32]) -> St
 }
 
 // BD: a bound of the zone that is begun.
-fn take_bound(model: &[u32], s: &[u8], at: usize, x: Sofar, t: &mut [u32]) -> Step
+fn take_bound(model: &[u32], s: &[u8], at: usize, x: Sofar, t: &mut [u32]) -> Taken
     requires { ⌜ RightTable (now model) × Ready x (now s) at (now t) ⌝ }
     ensures { λ r. ⌜ ((y : reader.Sofar) → Holds (decode (now (model .entry))) y x (now (t .entry)) → Took (lookBound (decode (now (model .entry))) (now (s .entry)) at y) y r (now (t .entry)) (now (t .exit))) ⌝ }
 {
     if !x.due {
-        return Step::Fault(3, at);
+        return Taken::Fault(3, at);
     }
-    let zones = x.zones;
-    let len = x.len;
-    let r = reading_rows::read_bound(s, at + 2, model_table::clocks(model) + 2 * (len as u32));
+    let last = home::variables(model, x.len) - 1;
+    let r = reading_rows::read_bound(s, at + 2, last as u32);
     if 0 < r.refusal {
-        return Step::Fault(r.refusal, r.at);
+        return Taken::Fault(r.refusal, r.at);
     }
     if r.i == r.j {
-        return Step::Fault(6, at);
+        return Taken::Fault(6, at);
     }
     let k = 17 * (r.i as usize) + (r.j as usize);
     if k < x.cursor {
-        return Step::Fault(6, at);
+        return Taken::Fault(6, at);
     }
-    t[384 + 289 * zones + k] = r.c + 1;
-    Step::Next(
+    let from = bounds_start(x.zones + 1);
+    t[from + k] = r.c + 1;
+    Taken::Next(
         r.at,
         Sofar {
-            zones,
+            zones: x.zones,
             due: true,
-            len,
+            len: x.len,
             cursor: k + 1,
             pool: x.pool,
         },
@@ -106,33 +108,36 @@ fn take_bound(model: &[u32], s: &[u8], at: usize, x: Sofar, t: &mut [u32]) -> St
 }
 
 // GO: the claims of the zone that is begun.
-fn take_claims(model: &[u32], s: &[u8], at: usize, x: Sofar, t: &mut [u32]) -> Step
-    requires { ⌜ RightTable (now model) × Ready x (now s) at (now t) ⌝ }
+fn take_claims(model: &[u32], s: &[u8], at: usize, x: Sofar, t: &mut [u32]) -> Taken
+    requires { ⌜ RightTable (now model) × Ready x (now s) at (now t) × Begun (decode (now model)) x (now t) ⌝ }
     ensures { λ r. ⌜ ((y : reader.Sofar) → Holds (decode (now (model .entry))) y x (now (t .entry)) → Took (lookClaims (decode (now (model .entry))) (now (s .entry)) at y) y r (now (t .entry)) (now (t .exit))) ⌝ }
 {
     if !x.due {
-        return Step::Fault(3, at);
+        return Taken::Fault(3, at);
     }
-    let zones = x.zones;
+    let zone = x.zones + 1;
     let pool = x.pool;
-    let q = 14256 + pool;
+    let q = POOL_START + pool;
+    // the claims that follow do not touch the location and the queue
+    let home = home_with(t, zone, x.len as u32);
     let r = reading_rows::read_row(s, at + 2, s.len(), 0, 48, t, q, 226);
     if 0 < r.refusal {
-        return Step::Fault(r.refusal, r.at);
+        return Taken::Fault(r.refusal, r.at);
     }
-    let w = claims::walk(model, t, zones, x.len, q);
+    let w = zone_list::steps(model, home, t, q);
     let many = r.many;
     if many != w.many {
-        return Step::Fault(9, at);
+        return Taken::Fault(9, at);
     }
     if !w.zeros {
-        return Step::Fault(9, at);
+        return Taken::Fault(9, at);
     }
-    t[8 * zones + 7] = (pool + many) as u32;
-    Step::Next(
+    let head = head_start(zone);
+    t[head + 7] = (pool + many) as u32;
+    Taken::Next(
         r.at,
         Sofar {
-            zones: zones + 1,
+            zones: zone,
             due: false,
             len: 0,
             cursor: 0,
@@ -142,31 +147,31 @@ fn take_claims(model: &[u32], s: &[u8], at: usize, x: Sofar, t: &mut [u32]) -> S
 }
 
 // EN: the end.
-fn take_end(s: &[u8], at: usize, x: Sofar, t: &[u32]) -> Step
+fn take_end(s: &[u8], at: usize, x: Sofar, t: &[u32]) -> Taken
     requires { ⌜ Ready x (now s) at (now t) ⌝ }
     ensures { λ r. ⌜ ((m : Model) (y : reader.Sofar) → Holds m y x (now (t .entry)) → Took (lookEnd m (now (s .entry)) at y) y r (now (t .entry)) (now (t .entry))) ⌝ }
 {
     if x.due {
-        return Step::Fault(3, at);
+        return Taken::Fault(3, at);
     }
     if x.zones == 0 {
-        return Step::Fault(3, at);
+        return Taken::Fault(3, at);
     }
-    if !places::byte_is(s, at + 2, 10) {
-        return Step::Fault(4, at + 2);
+    if !lines::byte_is(s, at + 2, 10) {
+        return Taken::Fault(4, at + 2);
     }
-    if !claims::up_to_last(t, 14256, x.pool, x.zones as u32) {
-        return Step::Fault(9, at);
+    if !up_to_last(t, POOL_START, x.pool, x.zones) {
+        return Taken::Fault(9, at);
     }
     if at + 3 < s.len() {
-        return Step::Fault(3, at + 3);
+        return Taken::Fault(3, at + 3);
     }
-    Step::End
+    Taken::End
 }
 
 // The record at `at`.
-pub(crate) fn take(model: &[u32], s: &[u8], at: usize, x: Sofar, t: &mut [u32]) -> Step
-    requires { ⌜ RightTable (now model) × Ready x (now s) at (now t) ⌝ }
+pub(crate) fn take(model: &[u32], s: &[u8], at: usize, x: Sofar, t: &mut [u32]) -> Taken
+    requires { ⌜ RightTable (now model) × Ready x (now s) at (now t) × Begun (decode (now model)) x (now t) ⌝ }
     ensures { λ r. ⌜ ((y : reader.Sofar) → Holds (decode (now (model .entry))) y x (now (t .entry)) → Took (look (decode (now (model .entry))) (now (s .entry)) at y) y r (now (t .entry)) (now (t .exit))) ⌝ }
 {
     match reading_marks::mark(s, at) {
@@ -174,6 +179,6 @@ pub(crate) fn take(model: &[u32], s: &[u8], at: usize, x: Sofar, t: &mut [u32]) 
         2 => take_bound(model, s, at, x, t),
         3 => take_claims(model, s, at, x, t),
         4 => take_end(s, at, x, t),
-        _ => Step::Fault(3, at),
+        _ => Taken::Fault(3, at),
     }
 }

@@ -1,5 +1,4 @@
 // Numbers of a line, from the text into the table.
-// Assumes nothing.
 ghost use mathlib.Core.Path.{_≡_};
 ghost use mathlib.Core.List.{List, [], _∷_};
 ghost use Prim.Native.Nat.{ℕ, _+_, _≤_};
@@ -7,9 +6,7 @@ ghost use lib.ListN.{length};
 ghost use Rattle.meaning.specs.Text.Ranges.{queueMost, boundMost};
 ghost use Rattle.meaning.specs.Text.Lines.{between, around, Fields, fields, fieldsUpTo, fieldsMore, join};
 ghost use Rattle.zone_text.specs.Rows.{RowTold, HeadTold, JoinTold, BoundTold, BoundSmall};
-use lines::fields;
-use lines::numerals::Number;
-use lines::places;
+use lines::Number;
 
 // The end of document 01's range of bounds.
 const BOUND_MOST: u32 = 32000;
@@ -59,7 +56,7 @@ pub(crate) fn read_row(
     let mut p = at;
     let mut o: usize = 0;
     loop {
-        if places::byte_is(s, p, 10) {
+        if lines::byte_is(s, p, 10) {
             if o == 0 {
                 return Row {
                     refusal: 0,
@@ -72,7 +69,7 @@ pub(crate) fn read_row(
         if most <= k {
             return refused(4, p);
         }
-        match fields::read_field(s, p, false) {
+        match lines::read_field(s, p, false) {
             Number::Stuck(w) => {
                 return refused(4, w);
             }
@@ -81,7 +78,7 @@ pub(crate) fn read_row(
                 size,
                 next,
             } => {
-                o = fields::first_out(o, low, high, size, p + 1);
+                o = lines::first_out(o, low, high, size, p + 1);
                 if k < room {
                     t[q + k] = size + 1;
                 }
@@ -120,7 +117,7 @@ pub(crate) fn read_order(
     requires { ⌜ q + 7 ≤ length (now t) ⌝ }
     ensures { λ r. ⌜ HeadTold (fieldsMore (between 1 locations ∷ []) queueMost (between 1 tasks) (now (s .entry)) at) r q (now (t .entry)) (now (t .exit)) × (r .many ≤ 6) ⌝ }
 {
-    match fields::read_field(s, at, false) {
+    match lines::read_field(s, at, false) {
         Number::Stuck(p) => refused(4, p),
         Number::Num {
             minus: _,
@@ -142,7 +139,7 @@ pub(crate) fn read_bound(s: &[u8], at: usize, last: u32) -> Bound
     let below = [0, 0, BOUND_MOST];
     let low = [0; 3];
     let high = [last, last, 2 * BOUND_MOST];
-    let r = fields::read_line(s, at, 3, below, low, high);
+    let r = lines::read_line(s, at, 3, below, low, high);
     let v = r.numbers;
     Bound {
         refusal: r.refusal,

@@ -1,8 +1,6 @@
 // The writer of a proposal's text. Each function but the last two gives the place after what it wrote.
-// Assumes nothing.
-ghost use mathlib.Core.Path.{_≡_};
-ghost use mathlib.Core.List.{List, [], _∷_, map};
-ghost use Prim.Native.Nat.{ℕ, _+_, _-_, _*_, _≤_, _<_};
+ghost use mathlib.Core.List.{[], _∷_, map};
+ghost use Prim.Native.Nat.{ℕ, _+_, _-_, _≤_};
 ghost use lib.Dec.{ltb};
 ghost use lib.ListN.{length, getD};
 ghost use Rattle.meaning.specs.Text.Choice.{pick};
@@ -12,17 +10,21 @@ ghost use Rattle.meaning.specs.Text.ModelReader.{words};
 ghost use Rattle.meaning.specs.Text.ModelTable as parts;
 ghost use Rattle.meaning.specs.Text.ProposalTable.{zoneSlot, poolStart, orderIn, boundsIn, zoneIn, decode};
 ghost use Rattle.meaning.specs.Text.ProposalText.{orderText, boundText, claimsText, zoneText, endText, proposalText};
-ghost use Rattle.model_table.specs.Right.{RightTable};
 ghost use Rattle.lines.specs.Put.{Put};
 ghost use Rattle.zone_table.specs.Kept.{fieldText, keptBound};
-ghost use Rattle.zone_text.specs.Wrote.{Wrote};
+ghost use Rattle.model_table.specs.Right.{RightTable};
+ghost use Rattle.zone_text.specs.Wrote.{WroteProposal};
 ghost use Rattle.zone_text.specs.Over.{WroteOver};
-use lines::writing;
-use model_table::cells::cell;
-use model_table::cells::less_one;
-use model_text::writing::is_model;
-use zone_table::lengths;
-use zone_table::test;
+use model_table::cell;
+use model_table::less_one;
+use model_text::is_model;
+use zone_table::POOL_START;
+use zone_table::bounds_start;
+use zone_table::claims;
+use zone_table::claims_start;
+use zone_table::head_start;
+use zone_table::is_proposal;
+use zone_table::text_length;
 
 // What a writer answers: done, with the length of the text; or a refusal number and its place.
 pub enum Written {
@@ -32,11 +34,6 @@ pub enum Written {
 
 // What is added to c of a bound, so that it is kept as a number that is not below 0.
 const BELOW: u32 = 32000;
-
-// Where the bounds and the claims begin.
-const BOUNDS_START: usize = 384;
-
-const POOL_START: usize = 14256;
 
 // A mark.
 fn write_mark(buf: &mut [u8], at: usize, a: u8, b: u8) -> usize
@@ -74,34 +71,35 @@ fn write_task(v: u32, buf: &mut [u8], at: usize) -> usize
     ensures { λ r. ⌜ Put (now (buf .entry)) at (pick (ltb 0 v) (fieldText (v - 1)) []) (now (buf .exit)) r ⌝ }
 {
     if 0 < v {
-        return writing::write_field(buf, at, 0, v - 1);
+        return lines::write_field(buf, at, 0, v - 1);
     }
     at
 }
 
 // The fields of a zone's tasks.
-fn write_tasks(table: &[u32], k: usize, buf: &mut [u8], at: usize) -> usize
-    requires { ⌜ (k < 48) × (at + length (texts fieldText (orderIn (now table) k)) ≤ length (now buf)) ⌝ }
-    ensures { λ r. ⌜ Put (now (buf .entry)) at (texts fieldText (orderIn (now (table .entry)) k)) (now (buf .exit)) r ⌝ }
+fn write_tasks(table: &[u32], zone: u32, buf: &mut [u8], at: usize) -> usize
+    requires { ⌜ (1 ≤ zone) × (zone ≤ 48) × (at + length (texts fieldText (orderIn (now table) (zone - 1))) ≤ length (now buf)) ⌝ }
+    ensures { λ r. ⌜ Put (now (buf .entry)) at (texts fieldText (orderIn (now (table .entry)) (zone - 1))) (now (buf .exit)) r ⌝ }
 {
+    let from = head_start(zone);
     let mut p = at;
     let mut x: usize = 0;
     while x < 6 {
-        p = write_task(cell(table, 8 * k + 1 + x), buf, p);
+        p = write_task(cell(table, from + 1 + x), buf, p);
         x += 1;
     }
     p
 }
 
 // The line of a zone's location and tasks.
-fn write_order(table: &[u32], k: usize, buf: &mut [u8], at: usize) -> usize
-    requires { ⌜ (k < 48) × (at + length (orderText (getD (now table) (zoneSlot k) 0 - 1) (orderIn (now table) k)) ≤ length (now buf)) ⌝ }
-    ensures { λ r. ⌜ Put (now (buf .entry)) at (orderText (getD (now (table .entry)) (zoneSlot k) 0 - 1) (orderIn (now (table .entry)) k)) (now (buf .exit)) r ⌝ }
+fn write_order(table: &[u32], zone: u32, buf: &mut [u8], at: usize) -> usize
+    requires { ⌜ (1 ≤ zone) × (zone ≤ 48) × (at + length (orderText (getD (now table) (zoneSlot (zone - 1)) 0 - 1) (orderIn (now table) (zone - 1))) ≤ length (now buf)) ⌝ }
+    ensures { λ r. ⌜ Put (now (buf .entry)) at (orderText (getD (now (table .entry)) (zoneSlot (zone - 1)) 0 - 1) (orderIn (now (table .entry)) (zone - 1))) (now (buf .exit)) r ⌝ }
 {
-    let l = less_one(cell(table, 8 * k));
+    let l = less_one(cell(table, head_start(zone)));
     let p = write_mark(buf, at, 90, 78);
-    let q = writing::write_field(buf, p, 0, l);
-    let r = write_tasks(table, k, buf, q);
+    let q = lines::write_field(buf, p, 0, l);
+    let r = write_tasks(table, zone, buf, q);
     write_feed(buf, r)
 }
 
@@ -116,18 +114,19 @@ fn write_bound(i: u32, j: u32, v: u32, buf: &mut [u8], at: usize) -> usize
     let below = [0, 0, BELOW];
     let numbers = [i, j, v - 1];
     let p = write_mark(buf, at, 66, 68);
-    writing::write_fields(buf, p, 3, below, numbers)
+    lines::write_fields(buf, p, 3, below, numbers)
 }
 
 // The lines of a zone's bounds.
-fn write_bounds(table: &[u32], k: usize, buf: &mut [u8], at: usize) -> usize
-    requires { ⌜ (k < 48) × (at + length (texts boundText (boundsIn (now table) k)) ≤ length (now buf)) ⌝ }
-    ensures { λ r. ⌜ Put (now (buf .entry)) at (texts boundText (boundsIn (now (table .entry)) k)) (now (buf .exit)) r ⌝ }
+fn write_bounds(table: &[u32], zone: u32, buf: &mut [u8], at: usize) -> usize
+    requires { ⌜ (1 ≤ zone) × (zone ≤ 48) × (at + length (texts boundText (boundsIn (now table) (zone - 1))) ≤ length (now buf)) ⌝ }
+    ensures { λ r. ⌜ Put (now (buf .entry)) at (texts boundText (boundsIn (now (table .entry)) (zone - 1))) (now (buf .exit)) r ⌝ }
 {
+    let from = bounds_start(zone);
     let mut p = at;
     let mut x: usize = 0;
     while x < 289 {
-        let v = cell(table, BOUNDS_START + 289 * k + x);
+        let v = cell(table, from + x);
         p = write_bound((x / 17) as u32, (x % 17) as u32, v, buf, p);
         x += 1;
     }
@@ -143,7 +142,7 @@ fn write_numbers(table: &[u32], from: u32, n: u32, buf: &mut [u8], at: usize) ->
     let mut x: u32 = 0;
     while x < n {
         let v = less_one(cell(table, POOL_START + (from as usize) + (x as usize)));
-        p = writing::write_field(buf, p, 0, v);
+        p = lines::write_field(buf, p, 0, v);
         x += 1;
     }
     p
@@ -159,18 +158,18 @@ fn write_claims(table: &[u32], from: u32, n: u32, buf: &mut [u8], at: usize) -> 
     write_feed(buf, q)
 }
 
-// The lines of zone k + 1, where there is one.
-fn write_zone(table: &[u32], k: usize, buf: &mut [u8], at: usize) -> usize
-    requires { ⌜ (k < 48) × (at + length (pick (there (now table) (zoneSlot k)) (zoneText (zoneIn (now table) k)) []) ≤ length (now buf)) ⌝ }
-    ensures { λ r. ⌜ Put (now (buf .entry)) at (pick (there (now (table .entry)) (zoneSlot k)) (zoneText (zoneIn (now (table .entry)) k)) []) (now (buf .exit)) r ⌝ }
+// The lines of a zone, where there is one.
+fn write_zone(table: &[u32], zone: u32, buf: &mut [u8], at: usize) -> usize
+    requires { ⌜ (1 ≤ zone) × (zone ≤ 48) × (at + length (pick (there (now table) (zoneSlot (zone - 1))) (zoneText (zoneIn (now table) (zone - 1))) []) ≤ length (now buf)) ⌝ }
+    ensures { λ r. ⌜ Put (now (buf .entry)) at (pick (there (now (table .entry)) (zoneSlot (zone - 1))) (zoneText (zoneIn (now (table .entry)) (zone - 1))) []) (now (buf .exit)) r ⌝ }
 {
-    if cell(table, 8 * k) == 0 {
+    if cell(table, head_start(zone)) == 0 {
         return at;
     }
-    let from = lengths::start(table, k);
-    let n = lengths::distance(from, cell(table, 8 * k + 7));
-    let p = write_order(table, k, buf, at);
-    let q = write_bounds(table, k, buf, p);
+    let from = claims_start(table, zone);
+    let n = claims(table, zone);
+    let p = write_order(table, zone, buf, at);
+    let q = write_bounds(table, zone, buf, p);
     write_claims(table, from, n, buf, q)
 }
 
@@ -180,10 +179,10 @@ fn write_text(table: &[u32], buf: &mut [u8]) -> usize
     ensures { λ r. ⌜ Put (now (buf .entry)) 0 (proposalText (decode (now (table .entry)))) (now (buf .exit)) r ⌝ }
 {
     let mut p: usize = 0;
-    let mut k: usize = 0;
+    let mut k: u32 = 0;
     while k < 48 {
-        p = write_zone(table, k, buf, p);
         k += 1;
+        p = write_zone(table, k, buf, p);
     }
     write_end(buf, p)
 }
@@ -193,10 +192,10 @@ fn write_over(model: &[u32], table: &[u32], buffer: &mut [u8]) -> Written
     requires { ⌜ RightTable (now model) ⌝ }
     ensures { λ r. ⌜ WroteOver (parts.decode (now (model .entry))) (now (table .entry)) (now (buffer .entry)) r (now (buffer .exit)) ⌝ }
 {
-    if !test::is_proposal(model, table) {
+    if !is_proposal(model, table) {
         return Written::Refused(13, 0);
     }
-    if buffer.len() < lengths::text_length(table) {
+    if buffer.len() < text_length(table) {
         return Written::Refused(11, 0);
     }
     let n = write_text(table, buffer);
@@ -205,7 +204,7 @@ fn write_over(model: &[u32], table: &[u32], buffer: &mut [u8]) -> Written
 
 // The text of the proposal's table into the buffer.
 pub fn write_proposal(model: &[u32], table: &[u32], buffer: &mut [u8]) -> Written
-    ensures { λ r. ⌜ Wrote (now (model .entry)) (now (table .entry)) (now (buffer .entry)) r (now (buffer .exit)) ⌝ }
+    ensures { λ r. ⌜ WroteProposal (now (model .entry)) (now (table .entry)) (now (buffer .entry)) r (now (buffer .exit)) ⌝ }
 {
     if !is_model(model) {
         return Written::Refused(13, 0);

@@ -1,7 +1,7 @@
 // Reads `model.txt` and `zones.txt` in the folder that it is run in, and prints the line of the check and a line feed. A file that can't be
 // read counts as empty.
 ghost use Rattle.io.specs.Counts.{Counts};
-use console::line::Written;
+use console::Written;
 use libc::STDOUT_FILENO;
 
 // Whether the file has no more bytes: a read that fails says no.
@@ -36,8 +36,8 @@ fn print_front(bytes: &[u8], n: usize) {
 // The line of the two texts. No line is longer than the buffer.
 fn print_line(model: &[u8], zones: &[u8]) {
     let mut buffer = [0u8; 569];
-    let told = console::texts::check_texts(model, zones);
-    if let Written::Done(n) = console::line::line(told, &mut buffer) {
+    let told = console::check_texts(model, zones);
+    if let Written::Done(n) = console::line(told, &mut buffer) {
         print_front(&buffer, n);
     }
 }

@@ -7,8 +7,8 @@ use Rattle.machine.proofs.edge.Tie as tie
 use Rattle.machine.proofs.edge.Reads as reads
 use Rattle.machine.proofs.edge.Lts as lts
 use Rattle.machine.proofs.judge.is_usable.Reads as is-usable-reads
-use Rattle.machine.proofs.steps.edge_given.Reads as edge-given-reads
-use Rattle.machine.proofs.steps.refused.Reads as refused-reads
+use Rattle.machine.proofs.stepping.edge_given.Reads as edge-given-reads
+use Rattle.machine.proofs.stepping.refused.Reads as refused-reads
 
 -- src/lib.rt:74:8
 is-usable-requires : tie.Need-is-usable-requires

@@ -55,8 +55,8 @@ use Rattle.machine.specs.ByPlace.{startSeen, lookOf, Ended, Finished}
 use Rattle.machine.specs.declared.Job.{Job}
 use Rattle.machine.specs.declared.listed.Seen.{Seen}
 use Rattle.machine.specs.declared.Placed.{Placed}
-use Rattle.machine.proofs.Walked.{after, scaled, few, slice, tslice, vals, tells}
-use Rattle.machine.proofs.SeenLaws.{Looked, looked-start, looked-next, looked-inside}
+use Rattle.machine.proofs.Walked.{after, scaled, slice, tslice, vals, tells}
+use Rattle.machine.proofs.SeenLaws.{Looked, looked-start, looked-next, looked-few}
 use Rattle.machine.proofs.PlaceLaws.{looked-whole}
 use Rattle.machine.proofs.Job as T
 use Rattle.machine.proofs.Job.Laws as T′
@@ -213,7 +213,7 @@ module _ {M : Type 1} (𝓤 : URA M) (H : Heap 𝓤) (A : Atoms 𝓤) (W : Given
   }
 
   ended : (i : Upto) → Ended (i .k) (i .s)
-  ended i = record { small = few (i .k) (length js) (i .within) (gn .1); inside = looked-inside (tab .now) n js (i .k) (i .s) (i .seen) (i .within) }
+  ended i = record { few = looked-few (tab .now) n js (i .k) (i .s) (i .seen) (i .within) }
 
   -- the answer, where the loop is left
   answer : (i : Upto) → length js ≤ i .k → (r : Placed) → Finished (tab .now) n (i .k) (i .s) r → Placing (tab .now) js n r

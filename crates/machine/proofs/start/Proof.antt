@@ -11,9 +11,9 @@ use Rattle.machine.proofs.start.Tie as tie
 use Rattle.machine.proofs.start.Reads as reads
 use Rattle.machine.proofs.start.Lts as lts
 use Rattle.machine.proofs.judge.is_given.Reads as is-given-reads
-use Rattle.machine.proofs.steps.no_state.Reads as no-state-reads
-use Rattle.machine.proofs.steps.refused.Reads as refused-reads
-use Rattle.machine.proofs.steps.start_given.Reads as start-given-reads
+use Rattle.machine.proofs.stepping.no_state.Reads as no-state-reads
+use Rattle.machine.proofs.stepping.refused.Reads as refused-reads
+use Rattle.machine.proofs.stepping.start_given.Reads as start-given-reads
 
 -- src/lib.rt:54:8
 is-given-requires : tie.Need-is-given-requires

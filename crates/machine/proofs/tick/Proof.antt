@@ -7,8 +7,8 @@ use Rattle.machine.proofs.tick.Tie as tie
 use Rattle.machine.proofs.tick.Reads as reads
 use Rattle.machine.proofs.tick.Lts as lts
 use Rattle.machine.proofs.judge.is_usable.Reads as is-usable-reads
-use Rattle.machine.proofs.steps.refused.Reads as refused-reads
-use Rattle.machine.proofs.steps.tick_given.Reads as tick-given-reads
+use Rattle.machine.proofs.stepping.refused.Reads as refused-reads
+use Rattle.machine.proofs.stepping.tick_given.Reads as tick-given-reads
 
 -- src/lib.rt:64:8
 is-usable-requires : tie.Need-is-usable-requires

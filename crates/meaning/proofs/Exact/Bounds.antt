@@ -6,46 +6,17 @@ use mathlib.Core.Bool.{Bool, true, false, true≢false}
 use mathlib.Core.List.{List, [], _∷_, _++_, List·Memᴰ, List·Memᴰ·head, List·Memᴰ·tail}
 use Prim.Native.Nat.{ℕ, zero, suc, _+_, _≤_, _<_}
 use native.Mathlib.Omega.{arith}
-use lib.IntN.{ℤ, negsuc, negℤ}
+use lib.IntN.{ℤ, negℤ}
 use lib.ListN.{length, getD}
-use Rattle.meaning.specs.Numbers.{over, under}
 use Rattle.meaning.specs.Lists.{nth1D}
 use Rattle.meaning.specs.Model.{Bound}
 use Rattle.meaning.specs.Machine.Edge.{boundTest}
+use Rattle.meaning.specs.Inner.Bounds.{bound, Meets, Met, Apart, Ranged, impossible, onlyIf}
 use Rattle.meaning.proofs.Numbers.{over-neg, under-neg, within-true, within-make}
-
-abbrev pub bound : ℕ → ℕ → ℤ → Bound
-bound i j c = record { i = i; j = j; c = c }
-
--- the valuation x meets the bound
-abbrev pub Meets : (ℕ → ℕ) → Bound → Type 0
-Meets x b = x (b .i) + under (b .c) ≤ x (b .j) + over (b .c)
-
--- and every bound of a list
-abbrev pub Met : (ℕ → ℕ) → List Bound → Type 0
-Met x [] = Unit {0}
-Met x (b ∷ bs) = Meets x b × Met x bs
-
--- variable i is at least c above variable j
-abbrev pub Apart : (ℕ → ℕ) → ℕ → ℕ → ℤ → Type 0
-Apart x i j c = x j + over c ≤ x i + under c
 
 -- as a bound the other way round
 pub apart-meets : (x : ℕ → ℕ) (i j : ℕ) (c : ℤ) → Apart x i j c ↔ Meets x (bound j i (negℤ c))
 apart-meets x i j c = (λ h. omega (arith, over-neg c, under-neg c), λ h. omega (arith, over-neg c, under-neg c))
-
--- every bound speaks of the first n variables
-abbrev pub Ranged : ℕ → List Bound → Type 0
-Ranged n [] = Unit {0}
-Ranged n (b ∷ bs) = (b .i < n) × (b .j < n) × Ranged n bs
-
--- the bound that nothing meets, and a list that is met only where the test holds
-abbrev pub impossible : Bound
-impossible = bound 0 0 (negsuc 0)
-
-abbrev pub onlyIf : Bool → List Bound → List Bound
-onlyIf true bs = bs
-onlyIf false bs = impossible ∷ []
 
 pub never-met : (x : ℕ → ℕ) → Met x (impossible ∷ []) → ⊥
 never-met x h = omega (arith, h .0)

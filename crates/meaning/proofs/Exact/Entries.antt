@@ -17,13 +17,16 @@ use Rattle.meaning.specs.Zones.Zone.{Zone, InZone}
 use Rattle.meaning.specs.Zones.Steps.{Step}
 use Rattle.meaning.specs.Zones.Reached.{Home, homeOfZone, ReachedBy, OverBy, Shown}
 use Rattle.meaning.specs.Zones.Tightest.{Entry, Reply, RightReply}
+use Rattle.meaning.specs.Inner.Words.{shift}
+use Rattle.meaning.specs.Inner.Bounds.{bound, Meets, Met, Apart}
+use Rattle.meaning.specs.Inner.Slots.{stateOf, zoneBounds, RangedZone}
+use Rattle.meaning.specs.Inner.StepBounds.{RangedModel}
+use Rattle.meaning.specs.Inner.Plans.{Plan, from, off, Shifted}
+use Rattle.meaning.specs.Inner.Sources.{stepOverflows, Source, planAt, homeAt, Leads}
 use Rattle.meaning.proofs.Tests.{never}
-use Rattle.meaning.proofs.Numbers.{over-neg, under-neg, within-true, within-make, shift, shift-parts, shift-none}
-use Rattle.meaning.proofs.Exact.Bounds.{bound, Meets, Met, Apart}
-use Rattle.meaning.proofs.Exact.Valuations.{stateOf, agrees-at, zoneBounds, RangedZone, zone-met, met-agrees, met-zone}
-use Rattle.meaning.proofs.Exact.StepBounds.{RangedModel}
-use Rattle.meaning.proofs.Exact.Moves.{Plan, from, off, Shifted}
-use Rattle.meaning.proofs.Exact.Reached.{stepOverflows, Source, planAt, homeAt, Leads, own-source, shown-leads, leads-shown, source-agrees, none-shown, over-iff, shown-reached}
+use Rattle.meaning.proofs.Numbers.{over-neg, under-neg, within-true, within-make, shift-parts, shift-none}
+use Rattle.meaning.proofs.Exact.Valuations.{agrees-at, zone-met, met-agrees, met-zone}
+use Rattle.meaning.proofs.Exact.Reached.{own-source, shown-leads, leads-shown, source-agrees, none-shown, over-iff, shown-reached}
 
 -- ── the best bounds of a set of valuations ─────────────────────────────────────────────────────
 

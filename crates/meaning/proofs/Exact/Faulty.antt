@@ -16,21 +16,23 @@ use Rattle.meaning.specs.Model.{Bound, Model, taskAt}
 use Rattle.meaning.specs.Machine.State.{State}
 use Rattle.meaning.specs.Zones.Variables.{var, variables}
 use Rattle.meaning.specs.Zones.Zone.{Zone, Proposal}
-use Rattle.meaning.specs.Zones.Steps.{Step}
 use Rattle.meaning.specs.Zones.Reached.{homeOfZone, ReachedBy, OverBy}
 use Rattle.meaning.specs.Check.Obligations.{Follow, follows, Holds}
 use Rattle.meaning.specs.Check.Faults.{Fault, late-at, over, unclaimed, elsewhere, breaks, kindOf, rowOf, columnOf, lateTest, Elsewhere, BreaksZone, Breaks, AtFault, Fails}
+use Rattle.meaning.specs.Inner.Bounds.{bound, Apart, Ranged}
+use Rattle.meaning.specs.Inner.Slots.{ageAt, stateOf, RangedZone}
+use Rattle.meaning.specs.Inner.StepBounds.{RangedModel}
+use Rattle.meaning.specs.Inner.Sources.{stepOverflows, Source, homeAt, Image, movedState}
+use Rattle.meaning.specs.Inner.Smallest.{Least, Lowest, ApartBefore, LateBefore}
 use Rattle.meaning.proofs.Tests.{never}
 use Rattle.meaning.proofs.Numbers.{sum-parts, within-false, within-break}
 use Rattle.meaning.proofs.Machine.Proper.{WellFormed}
 use Rattle.meaning.proofs.Zones.Home.{reached-lies}
 use Rattle.meaning.proofs.Check.Faults.{Named, no-fault-holds, RowByRow}
-use Rattle.meaning.proofs.Exact.Bounds.{bound, Apart, Ranged, ranged-mem}
-use Rattle.meaning.proofs.Exact.Valuations.{stateOf, RangedZone}
-use Rattle.meaning.proofs.Exact.StepBounds.{RangedModel}
-use Rattle.meaning.proofs.Exact.Reached.{stepOverflows, Source, homeAt, Image, own-source, shown-leads, reached-no-overflow, over-overflow}
-use Rattle.meaning.proofs.Exact.Smallest.{Least, Lowest, least-same, movedState, ApartBefore, reached-least, over-least, over-least-as-is, reached-apart-least, none-apart}
-use Rattle.meaning.proofs.Exact.Late.{ageAt, late-position, late-apart}
+use Rattle.meaning.proofs.Exact.Bounds.{ranged-mem}
+use Rattle.meaning.proofs.Exact.Reached.{own-source, shown-leads, reached-no-overflow, over-overflow}
+use Rattle.meaning.proofs.Exact.Smallest.{least-same, reached-least, over-least, over-least-as-is, reached-apart-least, none-apart}
+use Rattle.meaning.proofs.Exact.Late.{late-position, late-apart}
 
 -- ── the bound that a zone writes between two variables ─────────────────────────────────────────
 
@@ -199,10 +201,6 @@ module _ (m : Model) (p : Proposal) (f : Follow) where
   not-elsewhere-at y e h u r w = elsewhere-iff y u r .0 (subst (λ (x : Option Zone). Elsewhere x u) e w) h
 
 -- ── from the valuations before the step ────────────────────────────────────────────────────────
-
--- the age of the job that is at position k + 1 after the step comes to its D
-abbrev pub LateBefore : Model → Zone → Step → ℕ → (ℕ → ℕ) → Type 0
-LateBefore m z st k x = ApartBefore m z st (ageAt m k) 0 (pos (taskAt m (getD (homeAt m z st .order) k 0) .D)) x
 
 module _ (m : Model) (p : Proposal) (f : Follow) (rm : RangedModel m) where
   -- no state takes the step

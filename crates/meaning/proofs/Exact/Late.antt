@@ -24,12 +24,13 @@ use Rattle.meaning.specs.Zones.Zone.{Zone}
 use Rattle.meaning.specs.Zones.Steps.{Step, goOn, finish, byEdge, eventOf}
 use Rattle.meaning.specs.Zones.Reached.{Lands, ReachedBy}
 use Rattle.meaning.specs.Check.Faults.{lateTest}
+use Rattle.meaning.specs.Inner.Bounds.{Apart}
+use Rattle.meaning.specs.Inner.Slots.{slots, ageAt, Reads, Agrees}
+use Rattle.meaning.specs.Inner.Sources.{homeAt}
 use Rattle.meaning.proofs.Tests.{never}
 use Rattle.meaning.proofs.Lists.{mem-map-inv, mem-insertAt}
 use Rattle.meaning.proofs.Zones.Home.{reached-lies}
-use Rattle.meaning.proofs.Exact.Bounds.{Apart}
-use Rattle.meaning.proofs.Exact.Valuations.{slots, Reads, Agrees, lies-agrees}
-use Rattle.meaning.proofs.Exact.Reached.{homeAt}
+use Rattle.meaning.proofs.Exact.Valuations.{lies-agrees}
 
 -- ── no reached job is older than its D ─────────────────────────────────────────────────────────
 
@@ -104,13 +105,9 @@ module _ (m : Model) where
       let e : suc (suc (suc v) + (k + k)) ≡ suc (v + (suc k + suc k)) = omega arith in
       (λ w. (omega (arith, r .0 w .0), ap y (sym e) ∙ r .0 w .1), λ w. r .1 (omega (arith, w .0), ap y e ∙ w .1))
 
-  -- the variable of the age at position k + 1
-  abbrev pub ageAt : ℕ → ℕ
-  ageAt k = suc (suc (m .clocks) + (k + k))
-
   -- the job at position k + 1 is late exactly if there is one and its age is D
   pub late-iff : (o : List ℕ) (y : ℕ → ℕ) (t : State) → Agrees m o y t → (k : ℕ)
-      → (lateTest m (nth1 (t .queue) (suc k)) ≡ true) ↔ ((k < length o) × (y (ageAt k) ≡ taskAt m (getD o k 0) .D))
+      → (lateTest m (nth1 (t .queue) (suc k)) ≡ true) ↔ ((k < length o) × (y (ageAt m k) ≡ taskAt m (getD o k 0) .D))
   late-iff o y t g k = reads-late y 0 (suc (m .clocks)) o (t .queue) (g .queue) k
 
   module _ (z : Zone) (st : Step) (u : State) (r : ReachedBy m z st u) where
@@ -123,7 +120,7 @@ module _ (m : Model) where
 
     -- the job at position k + 1 of a reached state is late exactly if its age is D or more
     pub late-apart : (k : ℕ) → k < length (homeAt m z st .order)
-        → (lateTest m (nth1 (u .queue) (suc k)) ≡ true) ↔ Apart (var u) (ageAt k) 0 (pos (taskAt m (getD (homeAt m z st .order) k 0) .D))
+        → (lateTest m (nth1 (u .queue) (suc k)) ≡ true) ↔ Apart (var u) (ageAt m k) 0 (pos (taskAt m (getD (homeAt m z st .order) k 0) .D))
     late-apart k h =
         let o = homeAt m z st .order in
         let e = late-iff o (var u) u agrees k in

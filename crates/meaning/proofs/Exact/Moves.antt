@@ -3,7 +3,7 @@
 use mathlib.Core.Path.{_≡_, refl, sym, _∙_, ap, subst}
 use mathlib.Core.Logic.{_≢_}
 use mathlib.Core.Bool.{Bool, true, false, cond, _||_}
-use mathlib.Core.List.{List, [], _∷_, _++_, map, tail, List·Memᴰ, List·Memᴰ·head}
+use mathlib.Core.List.{List, [], _∷_, map, tail, List·Memᴰ, List·Memᴰ·head}
 use mathlib.Core.Option.{Option, none, some}
 use Prim.Native.Nat.{ℕ, zero, suc, _+_, _-_, _<_}
 use native.Mathlib.Omega.{arith}
@@ -13,8 +13,7 @@ use lib.IntN.{ℤ, pos, subℕ}
 use lib.ListN.{length, getD, set}
 use lib.Seq.{getD-set-other}
 use borrow.Author.Tests.{eqb-true, eqb-false}
-use Rattle.meaning.specs.Numbers.{over, under}
-use Rattle.meaning.specs.Lists.{nth1, nth1D, set1, elem, sameList}
+use Rattle.meaning.specs.Lists.{nth1, set1, elem, sameList}
 use Rattle.meaning.specs.Model.{Edge, Model, taskAt, target, released}
 use Rattle.meaning.specs.Machine.State.{Job, State, order}
 use Rattle.meaning.specs.Machine.Release.{overflowsAny, putAll, positions}
@@ -25,72 +24,16 @@ use Rattle.meaning.specs.Zones.Variables.{variables}
 use Rattle.meaning.specs.Zones.Proper.{ProperJob, Proper}
 use Rattle.meaning.specs.Zones.Steps.{Step, goOn, finish, byEdge, eventOf, takenBy, Takes}
 use Rattle.meaning.specs.Zones.Reached.{Home, insertAll, homeBy, homeAfter}
+use Rattle.meaning.specs.Inner.Slots.{Slot, slots, slotsOf, Reads, Agrees}
+use Rattle.meaning.specs.Inner.Places.{insertSlots}
+use Rattle.meaning.specs.Inner.Plans.{Plan, headTime, stays, enters, planBy, planOf, unreset, slotVars, slotOffs, from, off, Shifted}
 use Rattle.meaning.proofs.Tests.{false-of-not, never}
-use Rattle.meaning.proofs.Lists.{sameList-eq, tabFrom, tab-front, tab-back, getD-map-suc}
+use Rattle.meaning.proofs.Lists.{sameList-eq, tab-front, tab-back, getD-map-suc}
 use Rattle.meaning.proofs.Numbers.{sub-parts}
 use Rattle.meaning.proofs.Hooks.{finishes-at}
 use Rattle.meaning.proofs.Zones.Home.{mkHome}
-use Rattle.meaning.proofs.Exact.Valuations.{Slot, slots, slotsOf, Reads, Agrees, length-slots, reads-length, agrees-order}
-use Rattle.meaning.proofs.Exact.Releases.{insertSlots, reads-putAll}
-
--- ── the plan of a step ─────────────────────────────────────────────────────────────────────────
-
--- which clocks become variable 0; where each job of the new queue stands in the old valuation; what is added to clocks, sums and ages
-pub record Plan : Type 0 where
-  pub resets : List ℕ
-  pub slots : List Slot
-  pub clock : ℤ
-  pub sum : ℤ
-  pub age : ℤ
-
--- C of the head
-abbrev pub headTime : Model → List ℕ → ℕ
-headTime m [] = 1
-headTime m (t ∷ o) = taskAt m t .C
-
--- everything stays
-abbrev pub stays : Model → Home → Plan
-stays m h = record { resets = []; slots = slotsOf m (h .order); clock = pos 0; sum = pos 0; age = pos 0 }
-
--- an edge without an overflow
-abbrev pub enters : Model → Home → List ℕ → Edge → Plan
-enters m h ps e = record { resets = e .resets; slots = insertSlots (released m e) ps (slotsOf m (h .order)); clock = pos 0; sum = pos 0; age = pos 0 }
-
-abbrev pub planBy : Model → Home → List ℕ → Option Edge → Plan
-planBy m h ps none = stays m h
-planBy m h ps (some e) = cond (overflowsAny m (released m e) (h .order)) (stays m h) (enters m h ps e)
-
-abbrev pub planOf : Model → Home → Step → Plan
-planOf m h goOn = record { resets = []; slots = slotsOf m (h .order); clock = pos 1; sum = pos 1; age = pos 1 }
-planOf m h finish = record { resets = []; slots = tail (slotsOf m (h .order)); clock = pos 1; sum = subℕ 1 (headTime m (h .order)); age = pos 1 }
-planOf m h (byEdge k ps) = planBy m h ps (nth1 (m .edges) k)
-
--- a clock that is reset is variable 0
-abbrev pub unreset : List ℕ → ℕ → ℕ
-unreset rs i = cond (elem i rs) 0 i
-
-abbrev pub slotVars : List Slot → List ℕ
-slotVars [] = []
-slotVars (s ∷ ss) = s .sum ∷ s .age ∷ slotVars ss
-
-abbrev pub slotOffs : ℤ → ℤ → List Slot → List ℤ
-slotOffs c d [] = []
-slotOffs c d (s ∷ ss) = c ∷ d ∷ slotOffs c d ss
-
--- variable i after the step is variable from i before it, and off i more
-abbrev pub from : Model → Plan → ℕ → ℕ
-from m p i = nth1D (tabFrom 1 (unreset (p .resets)) (m .clocks) ++ slotVars (p .slots)) i 0
-
-abbrev pub off : Model → Plan → ℕ → ℤ
-off m p i = nth1D (tabFrom 1 (λ (k : ℕ). p .clock) (m .clocks) ++ slotOffs (p .sum) (p .age) (p .slots)) i (pos 0)
-
--- v is u, and c more
-abbrev pub Shifted : ℤ → ℕ → ℕ → Type 0
-Shifted c u v = v + under c ≡ u + over c
-
--- the valuation after the step
-abbrev pub move : Model → Plan → (ℕ → ℕ) → ℕ → ℕ
-move m p x i = x (from m p i) + over (off m p i) - under (off m p i)
+use Rattle.meaning.proofs.Exact.Valuations.{length-slots, reads-length, agrees-order}
+use Rattle.meaning.proofs.Exact.Releases.{reads-putAll}
 
 -- ── the queue ──────────────────────────────────────────────────────────────────────────────────
 

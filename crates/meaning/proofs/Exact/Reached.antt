@@ -4,13 +4,12 @@
 use mathlib.Core.Path.{_≡_, refl, sym, _∙_, ap, subst}
 use mathlib.Core.Logic.{_↔_, inl, inr}
 use mathlib.Core.Bool.{Bool, true, false, cond}
-use mathlib.Core.List.{List, _++_}
 use mathlib.Core.Option.{Option, none, some}
 use Prim.Native.Nat.{ℕ, zero, suc, _+_, _≤_, _<_}
 use native.Mathlib.Omega.{arith}
 use Rattle.meaning.specs.Numbers.{over, under}
 use Rattle.meaning.specs.Lists.{nth1}
-use Rattle.meaning.specs.Model.{Bound, Edge, Model, target, released}
+use Rattle.meaning.specs.Model.{Edge, Model, target, released}
 use Rattle.meaning.specs.Machine.State.{State, order}
 use Rattle.meaning.specs.Machine.Release.{overflowsAny}
 use Rattle.meaning.specs.Machine.Tick.{tickTo, late}
@@ -20,25 +19,20 @@ use Rattle.meaning.specs.Zones.Variables.{var, variables}
 use Rattle.meaning.specs.Zones.Zone.{Zone, InZone}
 use Rattle.meaning.specs.Zones.Steps.{Step, goOn, finish, byEdge, eventOf, Takes}
 use Rattle.meaning.specs.Zones.Reached.{Home, homeOfZone, insertAll, homeBy, homeAfter, Lands, ReachedBy, OverBy, Shown}
+use Rattle.meaning.specs.Inner.Bounds.{Met}
+use Rattle.meaning.specs.Inner.Slots.{stateOf, Agrees, zoneBounds, RangedZone}
+use Rattle.meaning.specs.Inner.StepBounds.{stepBounds, RangedModel}
+use Rattle.meaning.specs.Inner.Plans.{from, off, move}
+use Rattle.meaning.specs.Inner.Sources.{edgeOverflows, stepOverflows, Source, planAt, homeAt, movedState, Leads}
 use Rattle.meaning.proofs.Tests.{never}
 use Rattle.meaning.proofs.Zones.Home.{mkHome, home-in, Lies, reached-lies}
 use Rattle.meaning.proofs.Check.Faults.{not-refused}
-use Rattle.meaning.proofs.Exact.Bounds.{Met, met-append}
-use Rattle.meaning.proofs.Exact.Valuations.{stateOf, Agrees, lies-agrees, agrees-cong, agrees-state, zoneBounds, RangedZone, zone-agrees, zone-met, met-agrees, met-zone}
-use Rattle.meaning.proofs.Exact.StepBounds.{stepBounds, RangedModel, takes-iff}
-use Rattle.meaning.proofs.Exact.Moves.{Plan, planOf, from, off, Shifted, move, step-moves, moves-at}
+use Rattle.meaning.proofs.Exact.Bounds.{met-append}
+use Rattle.meaning.proofs.Exact.Valuations.{lies-agrees, agrees-cong, agrees-state, zone-agrees, zone-met, met-agrees, met-zone}
+use Rattle.meaning.proofs.Exact.StepBounds.{takes-iff}
+use Rattle.meaning.proofs.Exact.Moves.{step-moves, moves-at}
 
 -- ── an overflow, or not ────────────────────────────────────────────────────────────────────────
-
--- the release of the edge overflows a queue of this order
-abbrev pub edgeOverflows : Model → Home → Option Edge → Bool
-edgeOverflows m h none = false
-edgeOverflows m h (some e) = overflowsAny m (released m e) (h .order)
-
-abbrev pub stepOverflows : Model → Home → Step → Bool
-stepOverflows m h goOn = false
-stepOverflows m h finish = false
-stepOverflows m h (byEdge k ps) = edgeOverflows m h (nth1 (m .edges) k)
 
 judged-not : (s : State) (k : ℕ) → judged s k ≡ overflow → ⊥
 judged-not s zero e = let w : _≡_ {A = ℕ} 0 1 = cc in omega arith
@@ -131,32 +125,6 @@ module _ (m : Model) (z : Zone) (st : Step) where
 
 -- ── valuations that lead to them ───────────────────────────────────────────────────────────────
 
--- the bounds of the states of a zone that take a step
-abbrev pub sourceBounds : Model → Zone → Step → List Bound
-sourceBounds m z st = zoneBounds m z ++ stepBounds m (homeOfZone z) st
-
--- the valuations of these states
-pub record Source (m : Model) (z : Zone) (st : Step) (x : ℕ → ℕ) : Type 0 where
-  pub origin : x 0 ≡ 0
-  pub met : Met x (sourceBounds m z st)
-
-abbrev pub planAt : Model → Zone → Step → Plan
-planAt m z st = planOf m (homeOfZone z) st
-
-abbrev pub homeAt : Model → Zone → Step → Home
-homeAt m z st = homeAfter m (homeOfZone z) st
-
--- v is the valuation x moved by the step's plan
-abbrev pub Image : Model → Zone → Step → (ℕ → ℕ) → (ℕ → ℕ) → Type 0
-Image m z st x v =
-    (i : ℕ) → i < variables m (homeAt m z st .order) → Shifted (off m (planAt m z st) i) (x (from m (planAt m z st) i)) (v i)
-
--- x is the valuation of a state of the zone that takes the step, and the state t is x moved
-pub record Leads (m : Model) (z : Zone) (st : Step) (x : ℕ → ℕ) (t : State) : Type 0 where
-  pub source : Source m z st x
-  pub is : t ≡ stateOf m (homeAt m z st) (move m (planAt m z st) x)
-  pub at : Image m z st x (var t)
-
 module _ (m : Model) (z : Zone) (st : Step) (rm : RangedModel m) where
   -- one state of the zone with its valuation, and where it leads
   pub leads : (s : State) (x : ℕ → ℕ) → InZone m z s → Agrees m (z .order) x s → Takes m s st → Met x (zoneBounds m z)
@@ -209,15 +177,15 @@ module _ (m : Model) (z : Zone) (st : Step) (rm : RangedModel m) where
         (after s (act m s (eventOf st)), after-shown m z st s source-in source-takes, leads s x source-in source-agrees source-takes (both .0))
 
     -- its state, moved
-    pub moved-shown : Shown m z st (stateOf m (homeAt m z st) (move m (planAt m z st) x))
+    pub moved-shown : Shown m z st (movedState m z st x)
     moved-shown = let r = leads-shown in subst (Shown m z st) (r .2 .is) (r .1)
 
-    pub moved-leads : Leads m z st x (stateOf m (homeAt m z st) (move m (planAt m z st) x))
+    pub moved-leads : Leads m z st x (movedState m z st x)
     moved-leads = let r = leads-shown in subst (Leads m z st x) (r .2 .is) (r .2)
 
     -- its variables, and that none falls below 0
     pub moved-var : (i : ℕ) → i < variables m (homeAt m z st .order)
-        → var (stateOf m (homeAt m z st) (move m (planAt m z st) x)) i ≡ move m (planAt m z st) x i
+        → var (movedState m z st x) i ≡ move m (planAt m z st) x i
     moved-var i h = omega (arith, moved-leads .at i h)
 
     pub source-room : (i : ℕ) → i < variables m (homeAt m z st .order) → under (off m (planAt m z st) i) ≤ x (from m (planAt m z st) i) + over (off m (planAt m z st) i)

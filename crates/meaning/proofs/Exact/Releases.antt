@@ -4,68 +4,25 @@
 use mathlib.Core.Path.{_≡_, refl, sym, _∙_, ap, ap₂, subst}
 use mathlib.Core.Logic.{_↔_}
 use mathlib.Core.Bool.{Bool, true, false, cond, true≢false}
-use mathlib.Core.List.{List, [], _∷_, _++_, nil≢cons, head-eq-of-cons-eq, tail-eq-of-cons-eq}
-use Prim.Native.Nat.{ℕ, zero, suc, _+_}
+use mathlib.Core.List.{List, [], _∷_, nil≢cons, head-eq-of-cons-eq, tail-eq-of-cons-eq}
+use Prim.Native.Nat.{ℕ, zero, suc}
 use native.Mathlib.Omega.{arith}
-use lib.IntN.{pos, negsuc, negℤ, _-ℤ_}
 use Rattle.meaning.specs.Lists.{sameList, insertAt}
-use Rattle.meaning.specs.Model.{Bound, Model}
+use Rattle.meaning.specs.Model.{Model}
 use Rattle.meaning.specs.Machine.State.{Job, order}
 use Rattle.meaning.specs.Machine.Place.{beats, place, placeFrom, behind, placeOf}
 use Rattle.meaning.specs.Machine.Release.{overflowsAny, newJob, put, putAll, positions}
 use Rattle.meaning.specs.Zones.Steps.{placeTaken}
+use Rattle.meaning.specs.Inner.Bounds.{Met, onlyIf}
+use Rattle.meaning.specs.Inner.Slots.{Slot, tasksIn, Reads}
+use Rattle.meaning.specs.Inner.Tests.{Test, testMet, testAt}
+use Rattle.meaning.specs.Inner.Places.{noAt, placeBounds, insertSlot, insertSlots, positionBounds, releaseBounds}
 use Rattle.meaning.proofs.Lists.{sameList-refl, sameList-eq}
-use Rattle.meaning.proofs.Numbers.{sum-parts, over-neg, under-neg, within-true, within-make, within-false, within-break}
-use Rattle.meaning.proofs.Exact.Rules.{Rule, beatsAlways, beatsNever, ageAtMost, doneAtMost, ruleTest, ruleAt, beats-rule}
-use Rattle.meaning.proofs.Exact.Bounds.{bound, Met, impossible, onlyIf, never-met, onlyIf-met, met-append}
-use Rattle.meaning.proofs.Exact.Valuations.{Slot, slot, tasksIn, Reads, reads-order}
+use Rattle.meaning.proofs.Exact.Bounds.{never-met, onlyIf-met, met-append}
+use Rattle.meaning.proofs.Exact.Tests.{Stands, true-met, false-met, beats-test}
+use Rattle.meaning.proofs.Exact.Valuations.{reads-order}
 
 -- ── the place of one new job ───────────────────────────────────────────────────────────────────
-
--- the rule holds, and does not hold, of the job in slot s, behind the running sum in variable a. One line for each rule
-abbrev pub ruleYes : Rule → ℕ → Slot → List Bound
-ruleYes beatsAlways a s = []
-ruleYes beatsNever a s = impossible ∷ []
-ruleYes (ageAtMost c) a s = bound (s .age) 0 c ∷ []
-ruleYes (doneAtMost c) a s = bound (s .sum) a c ∷ []
-
-abbrev pub ruleNo : Rule → ℕ → Slot → List Bound
-ruleNo beatsAlways a s = impossible ∷ []
-ruleNo beatsNever a s = []
-ruleNo (ageAtMost c) a s = bound 0 (s .age) (negℤ c -ℤ pos 1) ∷ []
-ruleNo (doneAtMost c) a s = bound a (s .sum) (negℤ c -ℤ pos 1) ∷ []
-
-module _ (x : ℕ → ℕ) (z : x 0 ≡ 0) (a : ℕ) (s : Slot) (j : Job) (hs : x (s .sum) ≡ x a + j .done) (ha : x (s .age) ≡ j .age) where
-  yes-met : (r : Rule) → (ruleTest r j ≡ true) ↔ Met x (ruleYes r a s)
-  yes-met beatsAlways = (λ e. tt, λ h. refl)
-  yes-met beatsNever = (λ e. absurd (true≢false (sym e)), λ h. absurd (never-met x h))
-  yes-met (ageAtMost c) = (λ e. (omega (arith, within-true (j .age) 0 c e), tt), λ h. within-make (j .age) 0 c (omega (arith, h .0)))
-  yes-met (doneAtMost c) = (λ e. (omega (arith, within-true (j .done) 0 c e), tt), λ h. within-make (j .done) 0 c (omega (arith, h .0)))
-
-  no-met : (r : Rule) → (ruleTest r j ≡ false) ↔ Met x (ruleNo r a s)
-  no-met beatsAlways = (λ e. absurd (true≢false e), λ h. absurd (never-met x h))
-  no-met beatsNever = (λ e. tt, λ h. refl)
-  no-met (ageAtMost c) =
-      let p = sum-parts (negℤ c) (negsuc 0) in
-      let o = over-neg c in
-      let u = under-neg c in
-      (λ e. (omega (arith, within-false (j .age) 0 c e), tt), λ h. within-break (j .age) 0 c (omega (arith, h .0)))
-  no-met (doneAtMost c) =
-      let p = sum-parts (negℤ c) (negsuc 0) in
-      let o = over-neg c in
-      let u = under-neg c in
-      (λ e. (omega (arith, within-false (j .done) 0 c e), tt), λ h. within-break (j .done) 0 c (omega (arith, h .0)))
-
--- the new job passes over the first k, then beats none before position p, and the one at p: r is the rule against a task
-abbrev pub placeBounds : (ℕ → Rule) → ℕ → ℕ → ℕ → List Slot → List Bound
-placeBounds r zero zero a [] = []
-placeBounds r zero zero a (s ∷ ss) = ruleYes (r (s .task)) a s
-placeBounds r zero (suc p) a [] = impossible ∷ []
-placeBounds r zero (suc p) a (s ∷ ss) = ruleNo (r (s .task)) a s ++ placeBounds r zero p (s .sum) ss
-placeBounds r (suc k) zero a [] = []
-placeBounds r (suc k) zero a (s ∷ ss) = impossible ∷ []
-placeBounds r (suc k) (suc p) a [] = impossible ∷ []
-placeBounds r (suc k) (suc p) a (s ∷ ss) = placeBounds r k p (s .sum) ss
 
 front-iff : (c : Bool) (n : ℕ) → (cond c zero (suc n) ≡ zero) ↔ (c ≡ true)
 front-iff true n = (λ e. refl, λ e. refl)
@@ -75,8 +32,9 @@ later-iff : (c : Bool) (n p : ℕ) → (cond c zero (suc n) ≡ suc p) ↔ ((c �
 later-iff true n p = (λ e. absurd (omega arith), λ e. absurd (true≢false (e .0)))
 later-iff false n p = (λ e. (refl, omega arith), λ e. ap suc (e .1))
 
-module _ (x : ℕ → ℕ) (z : x 0 ≡ 0) (r : ℕ → Rule) (b : Job → Bool) (ok : (u : ℕ) (j : Job) → j .task ≡ u → ruleTest (r u) j ≡ b j) where
-  place-met : (k p a : ℕ) (ss : List Slot) (q : List Job) → Reads x a ss q → (placeFrom k b q ≡ p) ↔ Met x (placeBounds r k p a ss)
+-- f tests of a job, where it stands, what b says of it
+module _ (x : ℕ → ℕ) (z : x 0 ≡ 0) (f : ℕ → Slot → Test) (b : Job → Bool) (ok : (a : ℕ) (s : Slot) (j : Job) → Stands x a s j → testMet x (f a s) ≡ b j) where
+  place-met : (k p a : ℕ) (ss : List Slot) (q : List Job) → Reads x a ss q → (placeFrom k b q ≡ p) ↔ Met x (placeBounds f k p a ss)
   place-met zero zero a [] [] h = (λ e. tt, λ w. refl)
   place-met (suc k) zero a [] [] h = (λ e. tt, λ w. refl)
   place-met zero (suc p) a [] [] h = (λ e. absurd (omega arith), λ w. absurd (never-met x w))
@@ -85,15 +43,15 @@ module _ (x : ℕ → ℕ) (z : x 0 ≡ 0) (r : ℕ → Rule) (b : Job → Bool)
   place-met k p a (s ∷ ss) [] h = absurd h
   place-met zero zero a (s ∷ ss) (j ∷ q) h =
       let e = front-iff (b j) (place b q) in
-      let y = yes-met x z a s j (h .1) (h .2) (r (s .task)) in
-      let o = ok (s .task) j (h .0) in
+      let y = true-met x (f a s) in
+      let o = ok a s j (record { origin = z; task = h .0; sum = h .1; age = h .2 }) in
       (λ t. y .0 (o ∙ e .0 t), λ w. e .1 (sym o ∙ y .1 w))
   place-met zero (suc p) a (s ∷ ss) (j ∷ q) h =
       let e = later-iff (b j) (place b q) p in
-      let y = no-met x z a s j (h .1) (h .2) (r (s .task)) in
-      let o = ok (s .task) j (h .0) in
+      let y = false-met x (f a s) in
+      let o = ok a s j (record { origin = z; task = h .0; sum = h .1; age = h .2 }) in
       let i = place-met zero p (s .sum) ss q (h .3) in
-      let c = met-append x (ruleNo (r (s .task)) a s) (placeBounds r zero p (s .sum) ss) in
+      let c = met-append x (noAt f a s) (placeBounds f zero p (s .sum) ss) in
       (λ t. c .1 (y .0 (o ∙ e .0 t .0), i .0 (e .0 t .1)), λ w. e .1 (sym o ∙ y .1 (c .0 w .0), i .1 (c .0 w .1)))
   place-met (suc k) zero a (s ∷ ss) (j ∷ q) h = (λ e. absurd (omega arith), λ w. absurd (never-met x w))
   place-met (suc k) (suc p) a (s ∷ ss) (j ∷ q) h =
@@ -101,17 +59,6 @@ module _ (x : ℕ → ℕ) (z : x 0 ≡ 0) (r : ℕ → Rule) (b : Job → Bool)
       (λ e. i .0 (omega arith), λ w. ap suc (i .1 w))
 
 -- ── where a new job stands ─────────────────────────────────────────────────────────────────────
-
--- it has the running sum of the job just ahead, in variable a, and age 0, as variable 0 has
-abbrev pub insertSlot : ℕ → ℕ → ℕ → List Slot → List Slot
-insertSlot zero a t ss = slot t a 0 ∷ ss
-insertSlot (suc k) a t [] = slot t a 0 ∷ []
-insertSlot (suc k) a t (s ∷ ss) = s ∷ insertSlot k (s .sum) t ss
-
-abbrev pub insertSlots : List ℕ → List ℕ → List Slot → List Slot
-insertSlots [] ps ss = ss
-insertSlots (t ∷ ts) [] ss = ss
-insertSlots (t ∷ ts) (p ∷ ps) ss = insertSlots ts ps (insertSlot p 0 t ss)
 
 reads-insert : (x : ℕ → ℕ) (k a t : ℕ) (ss : List Slot) (q : List Job) → x 0 ≡ 0 → Reads x a ss q
     → Reads x a (insertSlot k a t ss) (insertAt k (newJob t) q)
@@ -123,19 +70,12 @@ reads-insert x (suc k) a t (s ∷ ss) (j ∷ q) z h = (h .0, h .1, h .2, reads-i
 
 -- ── releases, one after the other ──────────────────────────────────────────────────────────────
 
-abbrev pub positionBounds : Model → List ℕ → List ℕ → List Slot → List Bound
-positionBounds m [] [] ss = []
-positionBounds m [] (p ∷ ps) ss = impossible ∷ []
-positionBounds m (t ∷ ts) [] ss = impossible ∷ []
-positionBounds m (t ∷ ts) (p ∷ ps) ss =
-    placeBounds (ruleAt m t) (behind m t (tasksIn ss)) p 0 ss ++ positionBounds m ts ps (insertSlot p 0 t ss)
-
 module _ (m : Model) (x : ℕ → ℕ) (z : x 0 ≡ 0) where
   placeOf-met : (t p : ℕ) (ss : List Slot) (q : List Job) → Reads x 0 ss q
-      → (placeOf m t q ≡ p) ↔ Met x (placeBounds (ruleAt m t) (behind m t (tasksIn ss)) p 0 ss)
+      → (placeOf m t q ≡ p) ↔ Met x (placeBounds (testAt m t) (behind m t (tasksIn ss)) p 0 ss)
   placeOf-met t p ss q h =
-      subst (λ (o : List ℕ). (placeOf m t q ≡ p) ↔ Met x (placeBounds (ruleAt m t) (behind m t o) p 0 ss)) (reads-order x 0 ss q h)
-      (place-met x z (ruleAt m t) (beats m t) (beats-rule m t) (behind m t (order q)) p 0 ss q h)
+      subst (λ (o : List ℕ). (placeOf m t q ≡ p) ↔ Met x (placeBounds (testAt m t) (behind m t o) p 0 ss)) (reads-order x 0 ss q h)
+      (place-met x z (testAt m t) (beats m t) (λ a s j w. beats-test m t a s j x w) (behind m t (order q)) p 0 ss q h)
 
   reads-put : (t p : ℕ) (ss : List Slot) (q : List Job) → Reads x 0 ss q → placeOf m t q ≡ p → Reads x 0 (insertSlot p 0 t ss) (put m t q)
   reads-put t p ss q h e =
@@ -147,7 +87,7 @@ module _ (m : Model) (x : ℕ → ℕ) (z : x 0 ≡ 0) where
   positions-met [] (p ∷ ps) ss q h = (λ e. absurd (nil≢cons e), λ w. absurd (never-met x w))
   positions-met (t ∷ ts) [] ss q h = (λ e. absurd (nil≢cons (sym e)), λ w. absurd (never-met x w))
   positions-met (t ∷ ts) (p ∷ ps) ss q h =
-      let c = met-append x (placeBounds (ruleAt m t) (behind m t (tasksIn ss)) p 0 ss) (positionBounds m ts ps (insertSlot p 0 t ss)) in
+      let c = met-append x (placeBounds (testAt m t) (behind m t (tasksIn ss)) p 0 ss) (positionBounds m ts ps (insertSlot p 0 t ss)) in
       let f = placeOf-met t p ss q h in
       let i = positions-met ts ps (insertSlot p 0 t ss) (put m t q) in (
         λ e.
@@ -165,10 +105,6 @@ module _ (m : Model) (x : ℕ → ℕ) (z : x 0 ≡ 0) where
   reads-putAll (t ∷ ts) [] ss q h e = absurd (nil≢cons (sym e))
   reads-putAll (t ∷ ts) (p ∷ ps) ss q h e =
       reads-putAll ts ps (insertSlot p 0 t ss) (put m t q) (reads-put t p ss q h (head-eq-of-cons-eq e)) (tail-eq-of-cons-eq e)
-
--- an overflow has no position
-abbrev pub releaseBounds : Model → List ℕ → List ℕ → List ℕ → List Slot → List Bound
-releaseBounds m ts ps o ss = cond (overflowsAny m ts o) (onlyIf (sameList [] ps) []) (positionBounds m ts ps ss)
 
 -- the release takes this place exactly if the valuation meets these bounds
 pub release-met : (m : Model) (x : ℕ → ℕ) (ts ps o : List ℕ) (ss : List Slot) (q : List Job) → x 0 ≡ 0 → Reads x 0 ss q → order q ≡ o

@@ -15,24 +15,16 @@ use Rattle.meaning.specs.Zones.Zone.{Zone}
 use Rattle.meaning.specs.Zones.Steps.{Step}
 use Rattle.meaning.specs.Zones.Reached.{homeOfZone, ReachedBy, OverBy, Shown}
 use Rattle.meaning.specs.Check.Faults.{Below}
-use Rattle.meaning.proofs.Numbers.{shift}
-use Rattle.meaning.proofs.Exact.Bounds.{Apart}
-use Rattle.meaning.proofs.Exact.Valuations.{stateOf, lies-agrees, agrees-below, zone-agrees, RangedZone}
-use Rattle.meaning.proofs.Exact.StepBounds.{RangedModel}
-use Rattle.meaning.proofs.Exact.Moves.{from, off, move}
+use Rattle.meaning.specs.Inner.Bounds.{Apart}
+use Rattle.meaning.specs.Inner.Slots.{stateOf, RangedZone}
+use Rattle.meaning.specs.Inner.StepBounds.{RangedModel}
+use Rattle.meaning.specs.Inner.Plans.{from}
+use Rattle.meaning.specs.Inner.Sources.{stepOverflows, Source, planAt, homeAt, Leads, movedState}
+use Rattle.meaning.specs.Inner.Smallest.{Least, Lowest, ApartBefore}
+use Rattle.meaning.proofs.Exact.Valuations.{lies-agrees, agrees-below, zone-agrees}
 use Rattle.meaning.proofs.Exact.Ranges.{from-in}
-use Rattle.meaning.proofs.Exact.Reached.{stepOverflows, Source, planAt, homeAt, Leads, own-source, shown-leads, moved-shown, moved-leads, source-agrees, shown-lies, shown-reached, shown-over, over-iff}
+use Rattle.meaning.proofs.Exact.Reached.{own-source, shown-leads, moved-shown, moved-leads, source-agrees, shown-lies, shown-reached, shown-over, over-iff}
 use Rattle.meaning.proofs.Exact.Entries.{Best, leads-apart}
-
--- t is the smallest of the states of S
-pub record Least (S : State → Type 0) (t : State) : Type 0 where
-  pub is : S t
-  pub least : (u : State) → S u → Below t u
-
--- x is the smallest of the valuations of S, in the first n variables
-pub record Lowest (n : ℕ) (S : (ℕ → ℕ) → Type 0) (x : ℕ → ℕ) : Type 0 where
-  pub is : S x
-  pub least : (y : ℕ → ℕ) → S y → (i : ℕ) → i < n → x i ≤ y i
 
 -- the smallest of two sets with the same states
 pub least-same : (S R : State → Type 0) (t : State) → ((u : State) → S u ↔ R u) → Least S t → Least R t
@@ -44,15 +36,6 @@ lowest-same n S R x e l = record { is = e x .0 (l .is); least = λ y h. l .least
 -- where the best bound is below c, nothing is c apart
 pub best-apart : (S : (ℕ → ℕ) → Type 0) (a b : ℕ) (e c : ℤ) → Best S a b e → over e + under c < over c + under e → (y : ℕ → ℕ) → S y → Apart y a b c → ⊥
 best-apart S a b e c h l y s w = omega (arith, h .bounds y s)
-
--- the state of a valuation, moved by the step's plan
-abbrev pub movedState : Model → Zone → Step → (ℕ → ℕ) → State
-movedState m z st x = stateOf m (homeAt m z st) (move m (planAt m z st) x)
-
--- the variables from before of i and j are as far apart as c asks for after the step
-abbrev pub ApartBefore : Model → Zone → Step → ℕ → ℕ → ℤ → (ℕ → ℕ) → Type 0
-ApartBefore m z st i j c x =
-    Apart x (from m (planAt m z st) i) (from m (planAt m z st) j) (shift c (off m (planAt m z st) j) (off m (planAt m z st) i))
 
 module _ (m : Model) (z : Zone) (st : Step) (rm : RangedModel m) where
   -- a smaller valuation leads to a smaller state

@@ -12,26 +12,13 @@ use lib.Seq.{take-suc}
 use Rattle.meaning.specs.Model.{Bound, Model}
 use Rattle.meaning.specs.Zones.Zone.{Zone}
 use Rattle.meaning.specs.Zones.Steps.{Step}
-use Rattle.meaning.proofs.Exact.Bounds.{bound, Meets, Met, Apart, apart-meets, met-append}
-use Rattle.meaning.proofs.Exact.Valuations.{zoneBounds}
-use Rattle.meaning.proofs.Exact.Reached.{sourceBounds, Source}
+use Rattle.meaning.specs.Inner.Bounds.{bound, Meets, Met, Apart}
+use Rattle.meaning.specs.Inner.Slots.{zoneBounds}
+use Rattle.meaning.specs.Inner.Sources.{sourceBounds, Source}
+use Rattle.meaning.specs.Inner.Smallest.{Solves, Tightens, NoneMeet, Lowest}
+use Rattle.meaning.proofs.Exact.Bounds.{apart-meets, met-append}
 use Rattle.meaning.proofs.Exact.Entries.{BestE, best-same, Inside}
-use Rattle.meaning.proofs.Exact.Smallest.{Lowest, lowest-same}
-
--- S holds the valuations, with variable 0 at 0, that meet the bounds
-pub record Solves (S : (ℕ → ℕ) → Type 0) (bs : List Bound) : Type 0 where
-  pub origin : (x : ℕ → ℕ) → S x → x 0 ≡ 0
-  pub sound : (x : ℕ → ℕ) → S x → Met x bs
-  pub whole : (x : ℕ → ℕ) → x 0 ≡ 0 → Met x bs → S x
-
--- R is S with one more bound: what one tightening gives
-pub record Tightens (S : (ℕ → ℕ) → Type 0) (b : Bound) (R : (ℕ → ℕ) → Type 0) : Type 0 where
-  pub sound : (x : ℕ → ℕ) → R x → S x × Meets x b
-  pub whole : (x : ℕ → ℕ) → S x → Meets x b → R x
-
--- nothing meets the bounds
-abbrev pub NoneMeet : List Bound → Type 0
-NoneMeet bs = (x : ℕ → ℕ) → x 0 ≡ 0 → Met x bs → ⊥
+use Rattle.meaning.proofs.Exact.Smallest.{lowest-same}
 
 -- ── one bound after the other ──────────────────────────────────────────────────────────────────
 

@@ -19,28 +19,23 @@ use Rattle.meaning.specs.Machine.Edge.{boundTest, guardTest}
 use Rattle.meaning.specs.Machine.Step.{edgeAllowed}
 use Rattle.meaning.specs.Zones.Steps.{Step, goOn, finish, byEdge, takenBy, Takes}
 use Rattle.meaning.specs.Zones.Reached.{Home}
+use Rattle.meaning.specs.Inner.Bounds.{bound, Meets, Met, Ranged}
+use Rattle.meaning.specs.Inner.Slots.{Slot, slotsOf, Reads, Agrees}
+use Rattle.meaning.specs.Inner.Places.{releaseBounds}
+use Rattle.meaning.specs.Inner.StepBounds.{limitBounds, Clocked, headGoesOn, headFinishes, edgeBounds, stepBounds, GuardRanged, RangedModel}
 use Rattle.meaning.proofs.Tests.{and-left, and-right, and-both, not-of-false, false-of-not, never}
 use Rattle.meaning.proofs.Lists.{getD-map-suc}
 use Rattle.meaning.proofs.Numbers.{sub-parts, within-true, within-make}
 use Rattle.meaning.proofs.Hooks.{guardTest-is, finishes-none, finishes-is}
-use Rattle.meaning.proofs.Exact.Bounds.{bound, Meets, Met, Ranged, impossible, onlyIf, never-met, onlyIf-met, met-append}
-use Rattle.meaning.proofs.Exact.Valuations.{Slot, slotsOf, Reads, Agrees, agrees-order}
-use Rattle.meaning.proofs.Exact.Releases.{releaseBounds, release-met}
+use Rattle.meaning.proofs.Exact.Bounds.{never-met, onlyIf-met, met-append}
+use Rattle.meaning.proofs.Exact.Valuations.{agrees-order}
+use Rattle.meaning.proofs.Exact.Releases.{release-met}
 
 module _ {A B : Type 0} where
   and-iff : (a b : Bool) → (a ≡ true) ↔ A → (b ≡ true) ↔ B → ((a && b) ≡ true) ↔ (A × B)
   and-iff a b e f = (λ t. (e .0 (and-left a b t), f .0 (and-right a b t)), λ h. and-both a b (e .1 (h .0)) (f .1 (h .1)))
 
 -- ── limits: the clocks after the tick ──────────────────────────────────────────────────────────
-
-abbrev pub limitBounds : List Limit → List Bound
-limitBounds [] = []
-limitBounds (l ∷ ls) = bound (l .clock) 0 (subℕ (l .most) 1) ∷ limitBounds ls
-
--- every limit speaks of one of n clocks
-abbrev pub Clocked : ℕ → List Limit → Type 0
-Clocked n [] = Unit {0}
-Clocked n (l ∷ ls) = (0 < l .clock) × (l .clock ≤ n) × Clocked n ls
 
 module _ {m : Model} {o : List ℕ} {x : ℕ → ℕ} {s : State} (g : Agrees m o x s) where
   limit-met : (c k : ℕ) → 0 < c → c ≤ m .clocks → (leb (nth1D (map suc (s .clocks)) c 0) k ≡ true) ↔ Meets x (bound c 0 (subℕ k 1))
@@ -81,16 +76,6 @@ module _ {m : Model} {o : List ℕ} {x : ℕ → ℕ} {s : State} (g : Agrees m 
 
 -- ── the head goes on, or finishes ──────────────────────────────────────────────────────────────
 
--- the head's running sum is its done: at most C − 2, or none at all
-abbrev pub headGoesOn : Model → List Slot → List Bound
-headGoesOn m [] = []
-headGoesOn m (s ∷ ss) = bound (s .sum) 0 (subℕ (taskAt m (s .task) .C) 2) ∷ []
-
--- at least C − 1
-abbrev pub headFinishes : Model → List Slot → List Bound
-headFinishes m [] = impossible ∷ []
-headFinishes m (s ∷ ss) = bound 0 (s .sum) (subℕ 1 (taskAt m (s .task) .C)) ∷ []
-
 on-met : (m : Model) (x : ℕ → ℕ) (ss : List Slot) (q : List Job) → x 0 ≡ 0 → Reads x 0 ss q → (not (finishes m q) ≡ true) ↔ Met x (headGoesOn m ss)
 on-met m x [] [] z r = (λ t. tt, λ h. not-of-false (finishes-none m))
 on-met m x [] (j ∷ q) z r = absurd r
@@ -116,24 +101,6 @@ finish-met m x (s ∷ ss) (j ∷ q) z r =
     )
 
 -- ── the bounds of a step ───────────────────────────────────────────────────────────────────────
-
-abbrev pub edgeBounds : Model → Home → List ℕ → Option Edge → List Bound
-edgeBounds m h ps none = impossible ∷ []
-edgeBounds m h ps (some e) = onlyIf (leavesAt e (h .location)) (e .guard ++ releaseBounds m (released m e) ps (h .order) (slotsOf m (h .order)))
-
-abbrev pub stepBounds : Model → Home → Step → List Bound
-stepBounds m h goOn = limitBounds (locationAt m (h .location) .limits) ++ headGoesOn m (slotsOf m (h .order))
-stepBounds m h finish = limitBounds (locationAt m (h .location) .limits) ++ headFinishes m (slotsOf m (h .order))
-stepBounds m h (byEdge k ps) = edgeBounds m h ps (nth1 (m .edges) k)
-
-abbrev pub GuardRanged : ℕ → Option Edge → Type 0
-GuardRanged n none = Unit {0}
-GuardRanged n (some e) = Ranged n (e .guard)
-
--- limits and guards speak of the model's clocks: the reader of a model's text makes sure of it
-pub record RangedModel (m : Model) : Type 0 where
-  pub limits : (l : ℕ) → Clocked (m .clocks) (locationAt m l .limits)
-  pub guards : (k : ℕ) → GuardRanged (suc (m .clocks)) (nth1 (m .edges) k)
 
 module _ (m : Model) (h : Home) (x : ℕ → ℕ) (s : State) (w : RangedModel m) (g : Agrees m (h .order) x s) (e : s .location ≡ h .location) where
   tick-met : (tickAllowed m s ≡ true) ↔ Met x (limitBounds (locationAt m (h .location) .limits))

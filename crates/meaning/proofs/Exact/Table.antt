@@ -10,12 +10,12 @@ use Rattle.meaning.specs.Machine.Release.{overflows}
 use Rattle.meaning.specs.Zones.Steps.{Step, goOn, finish, byEdge}
 use Rattle.meaning.specs.Zones.Reached.{Home}
 use Rattle.meaning.specs.ConsoleChecks.{modelA}
-use Rattle.meaning.proofs.Lists.{tabFrom}
+use Rattle.meaning.specs.Inner.Words.{tabFrom}
+use Rattle.meaning.specs.Inner.Bounds.{bound, impossible}
+use Rattle.meaning.specs.Inner.Slots.{properBounds}
+use Rattle.meaning.specs.Inner.StepBounds.{stepBounds}
+use Rattle.meaning.specs.Inner.Plans.{planOf, from, off}
 use Rattle.meaning.proofs.Zones.Home.{mkHome}
-use Rattle.meaning.proofs.Exact.Bounds.{bound, impossible}
-use Rattle.meaning.proofs.Exact.Valuations.{properBounds}
-use Rattle.meaning.proofs.Exact.StepBounds.{stepBounds}
-use Rattle.meaning.proofs.Exact.Moves.{planOf, from, off}
 
 -- a clock; task 1 of C 4, D 5, task 2 of C 2, D 3, priorities 1 and 2; the edge resets the clock and releases task 2
 abbrev two : Policy → Model

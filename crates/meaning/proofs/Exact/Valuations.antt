@@ -4,71 +4,28 @@
 use mathlib.Core.Path.{_≡_, refl, sym, _∙_, ap, ap₂, subst}
 use mathlib.Core.Logic.{_↔_}
 use mathlib.Core.Bool.{true}
-use mathlib.Core.List.{List, [], _∷_, _++_, List·Memᴰ, List·Memᴰ·head, List·Memᴰ·tail, List·Memᴰ·not-nil}
+use mathlib.Core.List.{List, [], _∷_, List·Memᴰ, List·Memᴰ·head, List·Memᴰ·tail, List·Memᴰ·not-nil}
 use Prim.Native.Nat.{ℕ, zero, suc, _+_, _-_, _≤_, _<_}
 use native.Mathlib.Omega.{arith}
 use native.Mathlib.Decide.{decLt}
-use lib.IntN.{pos, subℕ}
 use lib.ListN.{length, getD, List·getD-append, List·getD-eq-default}
 use lib.Seq.{ext-getD, getD-append-add}
-use Rattle.meaning.specs.Model.{Bound, Model, taskAt}
+use Rattle.meaning.specs.Model.{Model, taskAt}
 use Rattle.meaning.specs.Machine.State.{Job, State, order}
 use Rattle.meaning.specs.Zones.Variables.{queueVars, vars, var, variables}
 use Rattle.meaning.specs.Zones.Proper.{ProperJob, fits, Proper}
 use Rattle.meaning.specs.Zones.Zone.{Zone, InZone}
 use Rattle.meaning.specs.Zones.Reached.{Home, homeOfZone}
 use Rattle.meaning.specs.Check.Faults.{Below}
-use Rattle.meaning.proofs.Lists.{tabFrom, length-tab, getD-tab}
+use Rattle.meaning.specs.Inner.Words.{tabFrom}
+use Rattle.meaning.specs.Inner.Bounds.{Met, Ranged}
+use Rattle.meaning.specs.Inner.Slots.{Slot, slots, slotsOf, tasksIn, Reads, jobsAt, stateOf, Agrees, properFrom, properBounds, zoneBounds, RangedZone}
+use Rattle.meaning.proofs.Lists.{length-tab, getD-tab}
 use Rattle.meaning.proofs.Numbers.{sub-parts}
 use Rattle.meaning.proofs.Zones.Home.{mkHome, home-in, Lies, length-vars}
-use Rattle.meaning.proofs.Exact.Bounds.{bound, Met, Ranged, met-append, ranged-append, met-tests, tests-met}
+use Rattle.meaning.proofs.Exact.Bounds.{met-append, ranged-append, met-tests, tests-met}
 
 -- ── the queue in a valuation ───────────────────────────────────────────────────────────────────
-
--- where a job stands: its task, the variable of its running sum, and that of its age
-pub record Slot : Type 0 where
-  pub task : ℕ
-  pub sum : ℕ
-  pub age : ℕ
-
-abbrev pub slot : ℕ → ℕ → ℕ → Slot
-slot t s a = record { task = t; sum = s; age = a }
-
--- the slots of a queue of these tasks, from variable v on
-abbrev pub slots : ℕ → List ℕ → List Slot
-slots v [] = []
-slots v (t ∷ o) = slot t v (suc v) ∷ slots (suc (suc v)) o
-
--- behind the model's clocks
-abbrev pub slotsOf : Model → List ℕ → List Slot
-slotsOf m o = slots (suc (m .clocks)) o
-
-abbrev pub tasksIn : List Slot → List ℕ
-tasksIn [] = []
-tasksIn (s ∷ ss) = s .task ∷ tasksIn ss
-
--- the valuation x has the queue q in the slots; a is the variable of the running sum just ahead, or 0
-abbrev pub Reads : (ℕ → ℕ) → ℕ → List Slot → List Job → Type 0
-Reads x a [] [] = Unit {0}
-Reads x a [] (j ∷ q) = ⊥
-Reads x a (s ∷ ss) [] = ⊥
-Reads x a (s ∷ ss) (j ∷ q) = (j .task ≡ s .task) × (x (s .sum) ≡ x a + j .done) × (x (s .age) ≡ j .age) × Reads x (s .sum) ss q
-
--- the jobs that a valuation has in the slots
-abbrev pub jobsAt : (ℕ → ℕ) → ℕ → List Slot → List Job
-jobsAt x a [] = []
-jobsAt x a (s ∷ ss) = record { task = s .task; done = x (s .sum) - x a; age = x (s .age) } ∷ jobsAt x (s .sum) ss
-
--- the state of a valuation, at a location with a queue order
-abbrev pub stateOf : Model → Home → (ℕ → ℕ) → State
-stateOf m h x = record { location = h .location; clocks = tabFrom 1 x (m .clocks); queue = jobsAt x 0 (slotsOf m (h .order)) }
-
--- the valuation x is that of the state s, whose queue is of the tasks o, as far as its variables go
-pub record Agrees (m : Model) (o : List ℕ) (x : ℕ → ℕ) (s : State) : Type 0 where
-  pub origin : x 0 ≡ 0
-  pub size : length (s .clocks) ≡ m .clocks
-  pub clock : (i : ℕ) → i < m .clocks → x (suc i) ≡ getD (s .clocks) i 0
-  pub queue : Reads x 0 (slotsOf m o) (s .queue)
 
 tasks-slots : (v : ℕ) (o : List ℕ) → tasksIn (slots v o) ≡ o
 tasks-slots v [] = refl
@@ -198,16 +155,6 @@ agrees-state {m} {o} {x} {s} g l e =
 
 -- ── properness as bounds ───────────────────────────────────────────────────────────────────────
 
--- "0 ≤ done ≤ C − 1 and 0 ≤ age ≤ D − 1", slot by slot
-abbrev pub properFrom : Model → ℕ → List Slot → List Bound
-properFrom m a [] = []
-properFrom m a (s ∷ ss) =
-    bound a (s .sum) (pos 0) ∷ bound (s .sum) a (subℕ (taskAt m (s .task) .C) 1) ∷ bound (s .age) 0 (subℕ (taskAt m (s .task) .D) 1)
-    ∷ properFrom m (s .sum) ss
-
-abbrev pub properBounds : Model → List ℕ → List Bound
-properBounds m o = properFrom m 0 (slotsOf m o)
-
 jobs-met : (m : Model) (x : ℕ → ℕ) (a : ℕ) (ss : List Slot) (q : List Job) → x 0 ≡ 0 → Reads x a ss q
     → ((j : Job) → List·Memᴰ j q → ProperJob m j) → Met x (properFrom m a ss)
 jobs-met m x a [] [] z h p = tt
@@ -277,14 +224,6 @@ pub proper-iff : (m : Model) (h : Home) (s : State) → fits m (h .order) ≡ tr
 proper-iff m h s f l = let g = lies-agrees m h s l in (proper-met m (h .order) (var s) s g, met-proper m (h .order) (var s) s f g)
 
 -- ── a zone as a set of valuations ──────────────────────────────────────────────────────────────
-
-abbrev pub zoneBounds : Model → Zone → List Bound
-zoneBounds m z = properBounds m (z .order) ++ z .bounds
-
--- the bounds that its author wrote speak of its variables, and the order is one that a queue can have
-pub record RangedZone (m : Model) (z : Zone) : Type 0 where
-  pub bounds : Ranged (variables m (z .order)) (z .bounds)
-  pub fit : fits m (z .order) ≡ true
 
 pub zone-agrees : (m : Model) (z : Zone) (s : State) → InZone m z s → Agrees m (z .order) (var s) s
 zone-agrees m z s h = agrees-vars m (z .order) s (h .proper .clocks) (h .queue)

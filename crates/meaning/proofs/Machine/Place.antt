@@ -1,15 +1,16 @@
 -- The place of a new job: in front of the first that it beats, and no other; and every release takes a place of the list.
 -- Assumes nothing.
-use mathlib.Core.Path.{_≡_, refl, sym, _∙_, ap, subst}
+use mathlib.Core.Path.{_≡_, refl, sym, _∙_, ap}
 use mathlib.Core.Bool.{Bool, true, false, cond, true≢false}
 use mathlib.Core.List.{List, [], _∷_, map, List·Memᴰ, List·Memᴰ·head}
-use Prim.Native.Nat.{ℕ, zero, suc, _+_, _-_, _≤_, _<_}
+use mathlib.Core.Option.{some}
+use Prim.Native.Nat.{ℕ, zero, suc, _-_, _≤_, _<_}
 use native.Mathlib.Omega.{arith}
 use native.Mathlib.Decide.{decLt}
-use lib.ListN.{length, getD, length-map}
+use lib.ListN.{length, getD, getElem?, length-map}
 use Rattle.meaning.specs.Lists.{insertAt}
 use Rattle.meaning.specs.Model.{Model}
-use Rattle.meaning.specs.Machine.State.{Job, State, order}
+use Rattle.meaning.specs.Machine.State.{Job, order}
 use Rattle.meaning.specs.Machine.Place.{place, placeFrom, behind, beats, placeOf}
 use Rattle.meaning.specs.Machine.Release.{overflowsAny, newJob, put, positions}
 use Rattle.meaning.specs.Zones.Steps.{choices, places, placeTaken}
@@ -34,6 +35,13 @@ module _ {A : Type 0} where
   placeFrom-low zero b q h = omega arith
   placeFrom-low (suc k) b [] h = omega arith
   placeFrom-low (suc k) b (j ∷ js) h = let g = placeFrom-low k b js (omega arith) in omega arith
+
+  -- where the test picks none of those passed over, it comes to the same as to pass over none
+  pub placeFrom-place : (k : ℕ) (b : A → Bool) (q : List A) → ((i : ℕ) → i < k → (a : A) → getElem? q i ≡ some a → b a ≡ false) → placeFrom k b q ≡ place b q
+  placeFrom-place zero b q h = refl
+  placeFrom-place (suc k) b [] h = refl
+  placeFrom-place (suc k) b (j ∷ js) h =
+      ap suc (placeFrom-place k b js (λ i g a e. h (suc i) (omega arith) a e)) ∙ sym (ap (λ (x : Bool). cond x zero (suc (place b js))) (h 0 (omega arith) j refl))
 
   -- p is the first place from k on: it beats none of those from k on that stay ahead, and it beats the next, or is last
   pub record FirstFit (d : A) (k : ℕ) (b : A → Bool) (q : List A) (p : ℕ) : Type 0 where

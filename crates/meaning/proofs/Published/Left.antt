@@ -1,25 +1,25 @@
 -- The plain machine's tick, edge and miss are 000's delay, action and error, on every proper state.
 -- Assumes nothing.
 use mathlib.Core.Path.{_≡_, refl, sym, _∙_, ap, ap₂}
-use mathlib.Core.Logic.{_⊎_, inl, inr, ⊎-elim}
+use mathlib.Core.Logic.{⊎-elim}
 use mathlib.Core.Bool.{Bool, true, false, cond, _&&_, _||_}
 use mathlib.Core.List.{List, [], _∷_, map, List·Memᴰ, List·Memᴰ·head, List·Memᴰ·tail}
 use Prim.Native.Nat.{ℕ, zero, suc, _+_, _-_, _≤_, _<_}
 use native.Mathlib.Omega.{arith}
 use native.Mathlib.Decide.{ℕ-discrete}
 use lib.Dec.{leb, ltb, eqb}
-use borrow.Author.Tests.{leb-true, leb-false, le-leb, lt-leb, lt-ltb, le-ltb, eqb-true, eqb-false, eq-eqb, ne-eqb}
-use Rattle.meaning.specs.Lists.{insertAt, first, next}
+use borrow.Author.Tests.{leb-true, le-leb, lt-leb, lt-ltb, eq-eqb, ne-eqb}
+use Rattle.meaning.specs.Lists.{insertAt, next}
 use Rattle.meaning.specs.Model.{Policy, fps, edf, sjf, Task, Edge, Model, taskAt, released}
 use Rattle.meaning.specs.Machine.State.{Job, State, order}
-use Rattle.meaning.specs.Machine.Place.{place, placeFrom, beatsBy, beats, placeOf}
+use Rattle.meaning.specs.Machine.Place.{place, placeFrom, behind, beatsBy, beats, placeOf}
 use Rattle.meaning.specs.Machine.Release.{newJob, put, putAll}
-use Rattle.meaning.specs.Machine.Tick.{older, worked, finishes, served, tickTo, isLate, late}
+use Rattle.meaning.specs.Machine.Tick.{older, finishes, served, tickTo, isLate, late}
 use Rattle.meaning.specs.Machine.Edge.{entered}
-use Rattle.meaning.specs.Zones.Proper.{ProperJob, Proper}
-use Rattle.meaning.specs.Published.Left.{Ready, Triple, readyOf, tripleOf, worksOne, elapsed, delayOne, higherBy, higher, fresh, releaseInto, releaseAll, actionTo, isError, firstError}
+use Rattle.meaning.specs.Zones.Proper.{Proper}
+use Rattle.meaning.specs.Published.Left.{Ready, readyOf, tripleOf, worksOne, elapsed, delayOne, higherBy, higher, fresh, tasksOf, releaseInto, releaseAll, actionTo, isError, firstError}
 use Rattle.meaning.proofs.Lists.{mem-insertAt, map-insertAt}
-use Rattle.meaning.proofs.Hooks.{finishes-is, goes-on, beats-is, behind-none}
+use Rattle.meaning.proofs.Hooks.{finishes-is, goes-on, beats-is}
 use Rattle.meaning.proofs.Tests.{leb-same}
 
 abbrev mkReady : ℕ → ℕ → ℕ → Ready
@@ -136,7 +136,7 @@ beats-higher sjf n t u j a =
     leb-same (suc (t .C + j .done)) (u .C) (suc (t .C)) (u .C - j .done)
     (λ (h : suc (t .C + j .done) ≤ u .C). omega arith) (λ (h : suc (t .C) ≤ u .C - j .done). omega arith)
 
-place-same : {A B : Type 0} (f : A → B) (b : A → Bool) (c : B → Bool) (q : List A) → ((x : A) → List·Memᴰ x q → b x ≡ c (f x))
+pub place-same : {A B : Type 0} (f : A → B) (b : A → Bool) (c : B → Bool) (q : List A) → ((x : A) → List·Memᴰ x q → b x ≡ c (f x))
     → place b q ≡ place c (map f q)
 place-same f b c [] h = refl
 place-same f b c (x ∷ q) h =
@@ -150,15 +150,25 @@ beats-is-higher m t j a = beats-is m t j ∙ beats-higher (m .policy) t (taskAt 
 pub fresh-is : (m : Model) (t : ℕ) → readyOf m (newJob t) ≡ fresh m t
 fresh-is m t = ap₂ (mkReady t) (omega arith) (omega arith)
 
+placeFrom-same : {A B : Type 0} (f : A → B) (b : A → Bool) (c : B → Bool) (k : ℕ) (q : List A) → ((x : A) → List·Memᴰ x q → b x ≡ c (f x))
+    → placeFrom k b q ≡ placeFrom k c (map f q)
+placeFrom-same f b c zero q h = place-same f b c q h
+placeFrom-same f b c (suc k) [] h = refl
+placeFrom-same f b c (suc k) (x ∷ q) h = ap suc (placeFrom-same f b c k q (λ y g. h y (List·Memᴰ·tail g)))
+
+ready-tasks : (m : Model) (q : List Job) → tasksOf (map (readyOf m) q) ≡ order q
+ready-tasks m [] = refl
+ready-tasks m (j ∷ q) = ap (λ (o : List ℕ). j .task ∷ o) (ready-tasks m q)
+
 put-published : (m : Model) (t : ℕ) (q : List Job) → Aged m q → map (readyOf m) (put m t q) ≡ releaseInto m t (map (readyOf m) q)
 put-published m t q a =
     map-insertAt (readyOf m) (placeOf m t q) (newJob t) q
     ∙ ap₂ (λ (k : ℕ) (r : Ready). insertAt k r (map (readyOf m) q)) where-to (fresh-is m t)
   where
-    where-to : placeOf m t q ≡ place (higher m (fresh m t)) (map (readyOf m) q)
-    where-to = ap (λ (k : ℕ). placeFrom k (beats m t) q) (behind-none m t (order q))
-        ∙ place-same (readyOf m) (beats m t) (higher m (fresh m t)) q
-        (λ j h. beats-is-higher m t j (a j h))
+    where-to : placeOf m t q ≡ placeFrom (behind m t (tasksOf (map (readyOf m) q))) (higher m (fresh m t)) (map (readyOf m) q)
+    where-to =
+        placeFrom-same (readyOf m) (beats m t) (higher m (fresh m t)) (behind m t (order q)) q (λ j h. beats-is-higher m t j (a j h))
+        ∙ ap (λ (o : List ℕ). placeFrom (behind m t o) (higher m (fresh m t)) (map (readyOf m) q)) (sym (ready-tasks m q))
 
 put-aged : (m : Model) (t : ℕ) (q : List Job) → Aged m q → Aged m (put m t q)
 put-aged m t q a j h = ⊎-elim (λ (e : j ≡ newJob t). rw e (omega arith)) (λ g. a j g) (mem-insertAt (placeOf m t q) q h)

@@ -1,27 +1,18 @@
 -- Lists in order under any strict order: there is one order of given elements, and insertion keeps it.
 -- Assumes nothing.
-use mathlib.Core.Path.{_≡_, refl, sym, _∙_, ap, ap₂}
+use mathlib.Core.Path.{_≡_, refl, sym, _∙_, ap, ap₂, subst}
 use mathlib.Core.Logic.{_⊎_, inl, inr, ⊎-elim}
-use mathlib.Core.Bool.{Bool, true, false, cond}
+use mathlib.Core.Bool.{Bool, true, false, cond, true≢false}
 use mathlib.Core.List.{List, [], _∷_, _++_, map, List·Memᴰ, List·Memᴰ·head, List·Memᴰ·tail, List·Memᴰ·cases-cons, List·Memᴰ·not-nil}
-use Prim.Native.Nat.{ℕ, zero, suc}
-use Rattle.meaning.specs.Lists.{insertAt}
+use Prim.Native.Nat.{zero, suc}
+use native.Mathlib.Omega.{arith}
+use Rattle.meaning.specs.Lists.{count, insertAt}
 use Rattle.meaning.specs.Machine.Place.{place}
 use Rattle.meaning.specs.Published.Order.{InOrder}
 use Rattle.meaning.proofs.Tests.{never}
-use Rattle.meaning.proofs.Lists.{mem-map-inv, mem-insertAt}
+use Rattle.meaning.proofs.Lists.{mem-map-inv, mem-insertAt, mem-count, count-mem}
 
 module _ {A : Type 0} where
-  pub new-insertAt : (k : ℕ) (x : A) (l : List A) → List·Memᴰ x (insertAt k x l)
-  new-insertAt zero x l = List·Memᴰ·head refl
-  new-insertAt (suc k) x [] = List·Memᴰ·head refl
-  new-insertAt (suc k) x (y ∷ l) = List·Memᴰ·tail (new-insertAt k x l)
-
-  pub old-insertAt : {a : A} (k : ℕ) (x : A) (l : List A) → List·Memᴰ a l → List·Memᴰ a (insertAt k x l)
-  old-insertAt zero x l h = List·Memᴰ·tail h
-  old-insertAt (suc k) x (y ∷ l) (List·Memᴰ·head e) = List·Memᴰ·head e
-  old-insertAt (suc k) x (y ∷ l) (List·Memᴰ·tail h) = List·Memᴰ·tail (old-insertAt k x l h)
-
   -- what keeps the order of any two keeps the list in order
   pub map-in-order : (b : A → A → Bool) (f : A → A) → ((i j : A) → b i j ≡ true → b (f i) (f j) ≡ true) → (l : List A) → InOrder b l
       → InOrder b (map f l)
@@ -81,31 +72,51 @@ module _ {A : Type 0} (b : A → A → Bool) (trans : (i j k : A) → b i j ≡ 
       go false e ih =
           (λ y h. ⊎-elim (λ (d : y ≡ x). ap (b j) d ∙ keeps j (List·Memᴰ·head refl) e) (s .0 y) (mem-insertAt (place c l) l h), ih)
 
-  module _ (irrefl : (j : A) → b j j ≡ false) where
-    head-one : (x y : A) (l r : List A) → InOrder b (x ∷ l) → InOrder b (y ∷ r) → List·Memᴰ x (y ∷ r) → List·Memᴰ y (x ∷ l) → x ≡ y
-    head-one x y l r sl sr h g = go (List·Memᴰ·cases-cons h) (List·Memᴰ·cases-cons g)
-      where
-        go : (x ≡ y) ⊎ List·Memᴰ x r → (y ≡ x) ⊎ List·Memᴰ y l → x ≡ y
-        go (inl e) w = e
-        go (inr u) (inl e) = sym e
-        go (inr u) (inr v) = absurd (never (trans x y x (sl .0 y v) (sr .0 x u)) (irrefl x))
+-- what holds of any two in order
+pub in-order-map : {A : Type 0} (b c : A → A → Bool) → ((i j : A) → b i j ≡ true → c i j ≡ true) → (l : List A) → InOrder b l → InOrder c l
+in-order-map b c f [] s = tt
+in-order-map b c f (x ∷ l) s = (λ y h. f x y (s .0 y h), in-order-map b c f l (s .1))
 
-    behind-head : (x y : A) (l r : List A) → x ≡ y → InOrder b (x ∷ l) → ((a : A) → List·Memᴰ a (x ∷ l) → List·Memᴰ a (y ∷ r))
-        → (a : A) → List·Memᴰ a l → List·Memᴰ a r
-    behind-head x y l r e s f a h =
-        ⊎-elim (λ (d : a ≡ y). absurd (never (s .0 a h) (ap (b x) (d ∙ sym e) ∙ irrefl x))) (λ g. g)
-        (List·Memᴰ·cases-cons (f a (List·Memᴰ·tail h)))
+-- `same` tests whether two are one
+module _ {A : Type 0} (same : A → A → Bool) (same-refl : (i : A) → same i i ≡ true) (same-is : (i j : A) → same i j ≡ true → i ≡ j) where
+  -- what is counted in the one list is in the other
+  pub counted : (x : A) (l r : List A) → List·Memᴰ x l → count (same x) l ≡ count (same x) r → List·Memᴰ x r
+  counted x l r h e =
+      let w = count-mem (same x) r (let n = mem-count (same x) h (same-refl x) in omega arith) in
+      subst (λ (a : A). List·Memᴰ a r) (sym (same-is x (w .0) (w .2))) (w .1)
 
-    -- there is one order of given elements
-    pub in-order-one : (l r : List A) → InOrder b l → InOrder b r → ((a : A) → List·Memᴰ a l → List·Memᴰ a r)
-        → ((a : A) → List·Memᴰ a r → List·Memᴰ a l) → l ≡ r
-    in-order-one [] [] sl sr f g = refl
-    in-order-one [] (y ∷ r) sl sr f g = absurd (List·Memᴰ·not-nil (g y (List·Memᴰ·head refl)))
-    in-order-one (x ∷ l) [] sl sr f g = absurd (List·Memᴰ·not-nil (f x (List·Memᴰ·head refl)))
-    in-order-one (x ∷ l) (y ∷ r) sl sr f g =
-        let e : x ≡ y = head-one x y l r sl sr (f x (List·Memᴰ·head refl)) (g y (List·Memᴰ·head refl)) in
-        let t : l ≡ r = in-order-one l r (sl .1) (sr .1) (behind-head x y l r e sl f) (behind-head y x r l (sym e) sr g) in
-        ap₂ (λ (a : A) (k : List A). a ∷ k) e t
+-- an order in which two that go before each other are one
+module _ {A : Type 0} (b same : A → A → Bool) (one : (i j : A) → b i j ≡ true → b j i ≡ true → i ≡ j)
+    (same-refl : (i : A) → same i i ≡ true) (same-is : (i j : A) → same i j ≡ true → i ≡ j) where
+  head-one : (x y : A) (l r : List A) → InOrder b (x ∷ l) → InOrder b (y ∷ r) → List·Memᴰ x (y ∷ r) → List·Memᴰ y (x ∷ l) → x ≡ y
+  head-one x y l r sl sr h g = go (List·Memᴰ·cases-cons h) (List·Memᴰ·cases-cons g)
+    where
+      go : (x ≡ y) ⊎ List·Memᴰ x r → (y ≡ x) ⊎ List·Memᴰ y l → x ≡ y
+      go (inl e) w = e
+      go (inr u) (inl e) = sym e
+      go (inr u) (inr v) = one x y (sl .0 y v) (sr .0 x u)
+
+  count-behind : (a x y : A) (l r : List A) → x ≡ y → count (same a) (x ∷ l) ≡ count (same a) (y ∷ r) → count (same a) l ≡ count (same a) r
+  count-behind a x y l r e h = go (same a x) (same a y) (ap (same a) e) h
+    where
+      go : (c d : Bool) → c ≡ d → cond c (suc (count (same a) l)) (count (same a) l) ≡ cond d (suc (count (same a) r)) (count (same a) r)
+          → count (same a) l ≡ count (same a) r
+      go true true f g = omega arith
+      go true false f g = absurd (true≢false f)
+      go false true f g = absurd (true≢false (sym f))
+      go false false f g = g
+
+  -- there is one order of given elements, each as often as it is given
+  pub in-order-one : (l r : List A) → InOrder b l → InOrder b r → ((a : A) → count (same a) l ≡ count (same a) r) → l ≡ r
+  in-order-one [] [] sl sr f = refl
+  in-order-one [] (y ∷ r) sl sr f = absurd (List·Memᴰ·not-nil (counted same same-refl same-is y (y ∷ r) [] (List·Memᴰ·head refl) (sym (f y))))
+  in-order-one (x ∷ l) [] sl sr f = absurd (List·Memᴰ·not-nil (counted same same-refl same-is x (x ∷ l) [] (List·Memᴰ·head refl) (f x)))
+  in-order-one (x ∷ l) (y ∷ r) sl sr f =
+      let e : x ≡ y =
+      head-one x y l r sl sr (counted same same-refl same-is x (x ∷ l) (y ∷ r) (List·Memᴰ·head refl) (f x))
+      (counted same same-refl same-is y (y ∷ r) (x ∷ l) (List·Memᴰ·head refl) (sym (f y))) in
+      let t : l ≡ r = in-order-one l r (sl .1) (sr .1) (λ a. count-behind a x y l r e (f a)) in
+      ap₂ (λ (a : A) (k : List A). a ∷ k) e t
 
 -- a list is cut in one way into those that a test does not pick and those that it picks
 pub cut-one : {A : Type 0} (c : A → Bool) (f g f′ g′ : List A) → f ++ g ≡ f′ ++ g′

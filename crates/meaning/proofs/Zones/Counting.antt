@@ -1,68 +1,51 @@
 -- How many steps a zone has, and where a claim 0 is due, counted edge by edge.
 -- Assumes nothing.
-use Prim.Native.Nat.{ℕ, zero, suc, _+_, _-_, _*_, _≤_}
+use Prim.Native.Nat.{ℕ, zero, suc, _+_, _*_, _≤_}
 use mathlib.Core.Path.{_≡_, refl, sym, _∙_, ap}
-use mathlib.Core.Bool.{Bool, true, false, not, cond, _&&_, _||_}
+use mathlib.Core.Bool.{Bool, true, false, not, cond, _&&_, _||_, true≢false}
 use mathlib.Core.List.{List, [], _∷_, _++_, map}
-use mathlib.Core.Option.{Option, none, some}
+use mathlib.Core.Option.{some}
 use native.Mathlib.Omega.{arith}
 use lib.Dec.{eqb}
-use lib.ListN.{length, getD, getElem?, drop, length-append}
-use Rattle.meaning.specs.Lists.{nth1, elem, insertAt, upTo, flat}
-use Rattle.meaning.specs.Model.{Edge, Model, leavesAt, locationAt, released, releases}
-use Rattle.meaning.specs.Machine.Place.{behind}
-use Rattle.meaning.specs.Machine.Release.{overflows, overflowsAny}
-use Rattle.meaning.specs.Text.Choice.{pick}
-use Rattle.meaning.specs.Text.RightProposal.{empty, zeroBy, zeroDue, zeroDueIn, zerosAt}
+use lib.ListN.{length, getD, getElem?, drop, length-append, length-map}
+use Rattle.meaning.specs.Lists.{nth1}
+use Rattle.meaning.specs.Model.{Edge, Model, leavesAt, released}
+use Rattle.meaning.specs.Machine.Release.{overflowsAny}
+use Rattle.meaning.specs.Text.Ranges.{edgesMost, queueMost, placesMost}
+use Rattle.meaning.specs.Text.RightProposal.{empty, zeroDue, zeroDueIn, zerosAt}
 use Rattle.meaning.specs.Zones.Zone.{Zone}
-use Rattle.meaning.specs.Zones.Steps.{Step, goOn, finish, byEdge, choices, places, leavingBy, leaving, steps}
-use Rattle.meaning.proofs.Hooks.{behind-none, leavesAt-is, overflows-is, released-is}
-
--- ---- one release
-
--- how many places the release of task t has in a queue of the tasks o; 0: nothing is released
-unfoldable pub placesOf : ℕ → List ℕ → ℕ
-placesOf t o = pick (eqb t 0) 1 (pick (elem t o) 1 (suc (length o)))
-
--- whether its claim has to be 0
-unfoldable pub zeroOf : ℕ → List ℕ → Bool
-zeroOf t o = pick (eqb t 0) false (elem t o)
-
-module _ (t : ℕ) (o : List ℕ) where
-  pub places-nothing : eqb t 0 ≡ true → (placesOf t o ≡ 1) × (zeroOf t o ≡ false)
-  unfolding placesOf zeroOf
-  places-nothing e = (rw e, rw e)
-
-  pub places-queued : eqb t 0 ≡ false → elem t o ≡ true → (placesOf t o ≡ 1) × (zeroOf t o ≡ true)
-  unfolding placesOf zeroOf
-  places-queued e f = (rw (e, f), rw (e, f))
-
-  pub places-new : eqb t 0 ≡ false → elem t o ≡ false → (placesOf t o ≡ suc (length o)) × (zeroOf t o ≡ false)
-  unfolding placesOf zeroOf
-  places-new e f = (rw (e, f), rw (e, f))
-
-  pub places-few : placesOf t o ≤ suc (length o)
-  unfolding placesOf
-  places-few = go (eqb t 0) (elem t o)
-    where
-      go : (a b : Bool) → pick a 1 (pick b 1 (suc (length o))) ≤ suc (length o)
-      go true b = omega arith
-      go false true = omega arith
-      go false false = omega arith
+use Rattle.meaning.specs.Zones.Steps.{Step, goOn, finish, byEdge, places, leavingBy, leaving, steps}
+use Rattle.meaning.proofs.Zones.Choices.{places-over}
+use Rattle.meaning.proofs.Releases.{released-places}
 
 -- ---- one edge, at a location l, with a queue of the tasks o
 
--- the task that the edge releases, or 0
-abbrev pub taskBy : Model → Edge → ℕ
-taskBy m e = locationAt m (e .to) .task
-
 -- how many places it has in the list of steps
 unfoldable pub placesBy : Model → ℕ → List ℕ → Edge → ℕ
-placesBy m l o e = pick (eqb (e .from) l) (placesOf (taskBy m e) o) 0
+placesBy m l o e = cond (leavesAt e l) (length (places m (released m e) o)) 0
 
 -- its first claim is 0 where 0 is due
 unfoldable pub zeroHolds : Model → ℕ → List ℕ → Edge → ℕ → Bool
-zeroHolds m l o e c = pick (eqb (e .from) l) (not (zeroOf (taskBy m e) o) || eqb c 0) true
+zeroHolds m l o e c = not (cond (leavesAt e l) (overflowsAny m (released m e) o) false) || eqb c 0
+
+module _ (m : Model) (l : ℕ) (o : List ℕ) (e : Edge) where
+  pub placesBy-is : placesBy m l o e ≡ cond (leavesAt e l) (length (places m (released m e) o)) 0
+  unfolding placesBy
+  placesBy-is = refl
+
+  pub zeroHolds-is : (c : ℕ) → zeroHolds m l o e c ≡ not (cond (leavesAt e l) (overflowsAny m (released m e) o) false) || eqb c 0
+  unfolding zeroHolds
+  zeroHolds-is c = refl
+
+  -- where 0 is due, the edge has a place
+  pub zero-place : cond (leavesAt e l) (overflowsAny m (released m e) o) false ≡ true → placesBy m l o e ≡ 1
+  unfolding placesBy
+  zero-place h = go (leavesAt e l) (overflowsAny m (released m e) o) refl h
+    where
+      go : (b d : Bool) → overflowsAny m (released m e) o ≡ d → cond b d false ≡ true → cond b (length (places m (released m e) o)) 0 ≡ 1
+      go true true w g = ap length (places-over m (released m e) o w)
+      go true false w g = absurd (true≢false (sym g))
+      go false d w g = absurd (true≢false (sym g))
 
 -- ---- the edges, one after the other
 
@@ -78,65 +61,14 @@ zerosFrom m l o cs p (e ∷ es) = zeroHolds m l o e (getD cs p 0) && zerosFrom m
 
 -- ---- the laws
 
-length-map : {A B : Type 0} (f : A → B) (xs : List A) → length (map f xs) ≡ length xs
-length-map f [] = refl
-length-map f (x ∷ xs) = ap suc (length-map f xs)
-
-length-upTo : (n k : ℕ) → length (upTo k n) ≡ suc n
-length-upTo zero k = refl
-length-upTo (suc n) k = ap suc (length-upTo n (suc k))
-
-length-flat-one : {A B : Type 0} (f : A → B) (xs : List A) → length (flat (λ (x : A). f x ∷ []) xs) ≡ length xs
-length-flat-one f [] = refl
-length-flat-one f (x ∷ xs) = ap suc (length-flat-one f xs)
-
 module _ (m : Model) (o : List ℕ) where
-  places-nothing-is : length (places m [] o) ≡ 1
-  places-nothing-is = refl
-
-  one-choice : (t : ℕ) → length (choices m (t ∷ []) o) ≡ suc (length o)
-  one-choice t =
-      length-flat-one (λ (p : ℕ). p ∷ []) (upTo (behind m t o) (length o - behind m t o)) ∙ length-upTo (length o - behind m t o) (behind m t o)
-      ∙ omega (arith, behind-none m t o)
-
-  one-overflows : (t : ℕ) → overflowsAny m (t ∷ []) o ≡ elem t o
-  one-overflows t = go (elem t o) (overflows-is m t o)
+  pub leavingBy-count : (e : Edge) (l k : ℕ) → length (leavingBy m l o k e) ≡ placesBy m l o e
+  unfolding placesBy
+  leavingBy-count e l k = go (leavesAt e l)
     where
-      go : (b : Bool) → overflows m t o ≡ b → (overflows m t o || false) ≡ b
-      go true e = rw e
-      go false e = rw e
-
-  places-of : (t : ℕ) → length (places m (cond (eqb t 0) [] (t ∷ [])) o) ≡ placesOf t o
-  unfolding placesOf
-  places-of t = go (eqb t 0) (elem t o) (one-overflows t)
-    where
-      go : (a b : Bool) → overflowsAny m (t ∷ []) o ≡ b → length (places m (cond a [] (t ∷ [])) o) ≡ pick a 1 (pick b 1 (suc (length o)))
-      go true b e = refl
-      go false true e = rw e
-      go false false e = rw e (one-choice t)
-
-  zero-of : (t : ℕ) → overflowsAny m (cond (eqb t 0) [] (t ∷ [])) o ≡ zeroOf t o
-  unfolding zeroOf
-  zero-of t = go (eqb t 0) (elem t o) (one-overflows t)
-    where
-      go : (a b : Bool) → overflowsAny m (t ∷ []) o ≡ b → overflowsAny m (cond a [] (t ∷ [])) o ≡ pick a false b
-      go true b e = refl
-      go false b e = e
-
-  module _ (e : Edge) where
-    pub places-are : length (places m (released m e) o) ≡ placesOf (taskBy m e) o
-    places-are = ap (λ (ts : List ℕ). length (places m ts o)) (released-is m e) ∙ places-of (taskBy m e)
-
-    pub zero-is : overflowsAny m (released m e) o ≡ zeroOf (taskBy m e) o
-    zero-is = ap (λ (ts : List ℕ). overflowsAny m ts o) (released-is m e) ∙ zero-of (taskBy m e)
-
-    pub leavingBy-count : (l k : ℕ) → length (leavingBy m l o k e) ≡ placesBy m l o e
-    unfolding placesBy
-    leavingBy-count l k = go (eqb (e .from) l) (leavesAt-is e l)
-      where
-        go : (b : Bool) → leavesAt e l ≡ b → length (leavingBy m l o k e) ≡ pick b (placesOf (taskBy m e) o) 0
-        go true q = rw q (length-map (byEdge k) (places m (released m e) o) ∙ places-are)
-        go false q = rw q
+      go : (b : Bool) → length (cond b (map (byEdge k) (places m (released m e) o)) []) ≡ cond b (length (places m (released m e) o)) 0
+      go true = length-map (places m (released m e) o) (byEdge k)
+      go false = refl
 
   leaving-count : (l k : ℕ) (es : List Edge) → length (leaving m l o k es) ≡ placesFrom m l o es
   unfolding placesFrom
@@ -201,13 +133,13 @@ module _ (m : Model) (l : ℕ) (o : List ℕ) where
   -- an edge of the model
   leavingBy-zeros : (k : ℕ) (e : Edge) (cs : List ℕ) → nth1 (m .edges) k ≡ some e → zerosAt (zeroDueIn m o) (leavingBy m l o k e) cs ≡ zeroHolds m l o e (getD cs 0 0)
   unfolding zeroHolds
-  leavingBy-zeros k e cs h = go (eqb (e .from) l) (leavesAt-is e l) (zeroOf (taskBy m e) o) (zero-is m o e)
+  leavingBy-zeros k e cs h = go (leavesAt e l) (overflowsAny m (released m e) o) refl
     where
-      go : (b : Bool) → leavesAt e l ≡ b → (d : Bool) → overflowsAny m (released m e) o ≡ d
-          → zerosAt (zeroDueIn m o) (leavingBy m l o k e) cs ≡ pick b (not d || eqb (getD cs 0 0) 0) true
-      go false q d w = rw q
-      go true q true w = rw (q, w) (zeros-one (zeroDueIn m o) (byEdge k []) cs ∙ rw (h, w))
-      go true q false w = rw q (zeros-free (zeroDueIn m o) k (places m (released m e) o) cs (λ ps. rw (h, w)))
+      go : (b d : Bool) → overflowsAny m (released m e) o ≡ d
+          → zerosAt (zeroDueIn m o) (cond b (map (byEdge k) (places m (released m e) o)) []) cs ≡ not (cond b d false) || eqb (getD cs 0 0) 0
+      go false d w = refl
+      go true true w = rw (places-over m (released m e) o w) (zeros-one (zeroDueIn m o) (byEdge k []) cs ∙ rw (h, w))
+      go true false w = zeros-free (zeroDueIn m o) k (places m (released m e) o) cs (λ ps. rw (h, w))
 
   leaving-zeros : (es : List Edge) (k p : ℕ) (cs : List ℕ) → ((i : ℕ) → getElem? es i ≡ nth1 (m .edges) (k + i))
       → zerosAt (zeroDueIn m o) (leaving m l o k es) (drop p cs) ≡ zerosFrom m l o cs p es
@@ -241,54 +173,21 @@ zeros-count m z cs =
     first (c ∷ []) = or-zero (empty (z .order))
     first (c ∷ d ∷ l) = and-one (not (empty (z .order)) || eqb d 0)
 
--- ---- the same by the definitions of the steps
-
-module _ (m : Model) (l : ℕ) (o : List ℕ) (e : Edge) where
-  pub placesBy-is : placesBy m l o e ≡ cond (leavesAt e l) (length (places m (released m e) o)) 0
-  unfolding placesBy
-  placesBy-is = go (eqb (e .from) l) (leavesAt-is e l)
-    where
-      go : (b : Bool) → leavesAt e l ≡ b → pick b (placesOf (taskBy m e) o) 0 ≡ cond (leavesAt e l) (length (places m (released m e) o)) 0
-      go true q = rw q (sym (places-are m o e))
-      go false q = rw q
-
-  pub zeroHolds-is : (c : ℕ) → zeroHolds m l o e c ≡ not (cond (leavesAt e l) (overflowsAny m (released m e) o) false) || eqb c 0
-  unfolding zeroHolds
-  zeroHolds-is c = go (eqb (e .from) l) (leavesAt-is e l)
-    where
-      go : (b : Bool) → leavesAt e l ≡ b → pick b (not (zeroOf (taskBy m e) o) || eqb c 0) true ≡ not (cond (leavesAt e l) (overflowsAny m (released m e) o) false) || eqb c 0
-      go true q = rw (q, zero-is m o e)
-      go false q = rw q
-
-  -- where 0 is due, the edge has a place
-  pub zero-place : cond (leavesAt e l) (overflowsAny m (released m e) o) false ≡ true → placesBy m l o e ≡ 1
-  unfolding placesBy zeroOf
-  zero-place h = go (eqb (e .from) l) (leavesAt-is e l)
-    where
-      of-task : (a b : Bool) → eqb (taskBy m e) 0 ≡ a → elem (taskBy m e) o ≡ b → pick a false b ≡ true → placesOf (taskBy m e) o ≡ 1
-      of-task true b p q w = places-nothing (taskBy m e) o p .0
-      of-task false true p q w = places-queued (taskBy m e) o p q .0
-      of-task false false p q w = absurd (let x : _≡_ {A = ℕ} 0 1 = cc in omega arith)
-
-      go : (b : Bool) → leavesAt e l ≡ b → pick b (placesOf (taskBy m e) o) 0 ≡ 1
-      go true q = of-task (eqb (taskBy m e) 0) (elem (taskBy m e) o) refl refl (sym (zero-is m o e) ∙ (rw q at h))
-      go false q = absurd (let x : _≡_ {A = Bool} false true = rw q at h in let y : _≡_ {A = ℕ} 0 1 = cc in omega arith)
-
 -- ---- how many there can be
 
-places-most : (m : Model) (l : ℕ) (o : List ℕ) (e : Edge) → length o ≤ 6 → placesBy m l o e ≤ 7
+places-most : (m : Model) (l : ℕ) (o : List ℕ) (e : Edge) → length o ≤ queueMost → placesBy m l o e ≤ placesMost
 unfolding placesBy
-places-most m l o e h = go (eqb (e .from) l)
+places-most m l o e h = go (leavesAt e l)
   where
-    go : (b : Bool) → pick b (placesOf (taskBy m e) o) 0 ≤ 7
-    go true = omega (arith, places-few (taskBy m e) o)
+    go : (b : Bool) → cond b (length (places m (released m e) o)) 0 ≤ placesMost
+    go true = released-places m e o h
     go false = omega arith
 
-pub placesFrom-most : (m : Model) (l : ℕ) (o : List ℕ) (es : List Edge) → length o ≤ 6 → placesFrom m l o es ≤ 7 * length es
+pub placesFrom-most : (m : Model) (l : ℕ) (o : List ℕ) (es : List Edge) → length o ≤ queueMost → placesFrom m l o es ≤ placesMost * length es
 unfolding placesFrom
 placesFrom-most m l o [] h = omega arith
 placesFrom-most m l o (e ∷ es) h = omega (arith, places-most m l o e h, placesFrom-most m l o es h)
 
 -- a zone has at most 226 steps
-pub steps-most : (m : Model) (z : Zone) → length (z .order) ≤ 6 → length (m .edges) ≤ 32 → length (steps m z) ≤ 226
+pub steps-most : (m : Model) (z : Zone) → length (z .order) ≤ queueMost → length (m .edges) ≤ edgesMost → length (steps m z) ≤ 226
 steps-most m z h n = omega (arith, steps-count m z, placesFrom-most m (z .location) (z .order) (m .edges) h)

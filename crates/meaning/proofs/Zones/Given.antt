@@ -14,10 +14,12 @@ use Rattle.meaning.specs.Zones.Variables.{vars, var, variables}
 use Rattle.meaning.specs.Zones.Proper.{fits, Proper}
 use Rattle.meaning.specs.Zones.Zone.{InZone, widest, exactly, clockBounds, queueBounds, zoneOf}
 use Rattle.meaning.specs.Zones.Reached.{Home, homeOf}
+use Rattle.meaning.specs.Inner.Bounds.{Met, Ranged}
+use Rattle.meaning.specs.Inner.Slots.{Slot, slots, Reads, Agrees, RangedZone}
 use Rattle.meaning.proofs.Numbers.{over-neg, under-neg, within-make}
 use Rattle.meaning.proofs.Zones.Home.{mkHome, home-in, Lies}
-use Rattle.meaning.proofs.Exact.Bounds.{Met, Ranged, met-mem, tests-met}
-use Rattle.meaning.proofs.Exact.Valuations.{Slot, slots, Reads, Agrees, agrees-vars, agrees-state, state-back, RangedZone}
+use Rattle.meaning.proofs.Exact.Bounds.{met-mem, tests-met}
+use Rattle.meaning.proofs.Exact.Valuations.{agrees-vars, agrees-state, state-back}
 
 -- ── the widest zone ────────────────────────────────────────────────────────────────────────────
 

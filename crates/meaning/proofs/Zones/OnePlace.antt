@@ -20,20 +20,17 @@ use Rattle.meaning.specs.Zones.Steps.{Step, goOn, finish, byEdge, choice
 use Rattle.meaning.proofs.Tests.{false-of-not, never}
 use Rattle.meaning.proofs.Lists.{mem-at, mem-map-inv, sameList-eq}
 use Rattle.meaning.proofs.Distinct.{Distinct, distinct-one, distinct-append, distinct-at, distinct-map, distinct-flat, distinct-upTo}
+use Rattle.meaning.proofs.Zones.Choices.{choicesAt}
 use Rattle.meaning.proofs.Zones.Listed.{step-of}
 
 -- ── no step stands twice in the list ───────────────────────────────────────────────────────────
 
--- the choices with p jobs ahead of the first new one
-abbrev ahead : Model → ℕ → List ℕ → List ℕ → ℕ → List (List ℕ)
-ahead m t ts o p = map (λ (ps : List ℕ). p ∷ ps) (choices m ts (insertAt p t o))
-
 cons-one : (p : ℕ) (ps qs : List ℕ) → _≡_ {A = List ℕ} (p ∷ ps) (p ∷ qs) → ps ≡ qs
 cons-one p ps qs e = cc
 
-ahead-one : (m : Model) (t : ℕ) (ts o : List ℕ) (p p′ : ℕ) (ps : List ℕ) → List·Memᴰ ps (ahead m t ts o p)
-    → List·Memᴰ ps (ahead m t ts o p′) → p ≡ p′
-ahead-one m t ts o p p′ ps h g =
+first-one : (m : Model) (t : ℕ) (ts o : List ℕ) (p p′ : ℕ) (ps : List ℕ) → List·Memᴰ ps (choicesAt m t ts o p)
+    → List·Memᴰ ps (choicesAt m t ts o p′) → p ≡ p′
+first-one m t ts o p p′ ps h g =
     let r = mem-map-inv (λ (qs : List ℕ). p ∷ qs) (choices m ts (insertAt p t o)) h in
     let r′ = mem-map-inv (λ (qs : List ℕ). p′ ∷ qs) (choices m ts (insertAt p′ t o)) g in
     let e : _≡_ {A = List ℕ} (p ∷ r .0) (p′ ∷ r′ .0) = sym (r .2) ∙ r′ .2 in
@@ -42,9 +39,9 @@ ahead-one m t ts o p p′ ps h g =
 choices-distinct : (m : Model) (ts o : List ℕ) → Distinct (choices m ts o)
 choices-distinct m [] o = distinct-one []
 choices-distinct m (t ∷ ts) o =
-    distinct-flat (ahead m t ts o)
+    distinct-flat (choicesAt m t ts o)
     (λ p. distinct-map (λ (ps : List ℕ). p ∷ ps) (cons-one p) (choices m ts (insertAt p t o)) (choices-distinct m ts (insertAt p t o)))
-    (ahead-one m t ts o) (upTo (behind m t o) (length o - behind m t o)) (distinct-upTo (length o - behind m t o) (behind m t o))
+    (first-one m t ts o) (upTo (behind m t o) (length o - behind m t o)) (distinct-upTo (length o - behind m t o) (behind m t o))
 
 places-distinct : (m : Model) (ts o : List ℕ) → Distinct (places m ts o)
 places-distinct m ts o = go (overflowsAny m ts o)

@@ -42,6 +42,14 @@ zonesMost = 48
 abbrev pub queueMost : ℕ
 queueMost = 6
 
+-- room for what one edge or the start may release: document 01 has at most one task, M-107 two, M-112 four
+abbrev pub releasesMost : ℕ
+releasesMost = 4
+
+-- "one place for each queue position 1 to length + 1": of one edge, in a queue of at most 6
+abbrev pub placesMost : ℕ
+placesMost = 7
+
 -- "BD bounds run from −32,000 to 32,000."
 abbrev pub boundMost : ℕ
 boundMost = 32000

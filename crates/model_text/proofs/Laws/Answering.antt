@@ -13,8 +13,8 @@ use Rattle.meaning.specs.Text.ModelTable.{size}
 use Rattle.meaning.specs.Text.ModelReader.{format, readModel, left}
 use Rattle.meaning.proofs.Text.Choices.{nonsense}
 use Rattle.meaning.proofs.Text.ModelLoop.{Reading, reading-first}
-use Rattle.model_text.specs.declared.records.Step.{Step}
-use Rattle.model_text.specs.declared.records.Step.the-variants.{Next, End, Fault}
+use Rattle.model_text.specs.declared.records.Taken.{Taken}
+use Rattle.model_text.specs.declared.records.Taken.the-variants.{Next, End, Fault}
 use Rattle.model_text.specs.declared.reading.Read.{Read}
 use Rattle.model_text.specs.declared.reading.Read.the-variants.{Done, Refused}
 use Rattle.model_text.specs.Meant.{Stepped, Answered}
@@ -27,7 +27,7 @@ reading-start s t n e = subst (λ (x : List ℕ). Reading s 0 0 x) (sym (e ∙ a
 pub reading-as : (s : List ℕ) (at i j : ℕ) (t u : List ℕ) → Reading s at i t → i ≡ j → u ≡ t → Reading s at j u
 reading-as s at i j t u r e f = rw (f, sym e) r
 
-module _ (r : Step) (t t′ : List ℕ) where
+module _ (r : Taken) (t t′ : List ℕ) where
   pub stepped-next : (x : Seen (List ℕ)) (next cursor : ℕ) → Stepped x r t t′ → r ≡ Next next cursor
       → (j : ℕ) × (v : List ℕ) × (x ≡ rec j v next) × (suc j ≡ cursor) × (t′ ≡ sets t j v)
   stepped-next (rec j v n) next cursor s e = let a = s .0 in (j, v, (cc), (cc), s .1)

@@ -19,7 +19,7 @@ use Rattle.lines.specs.Put.{Put}
 use Rattle.model_text.specs.declared.reading.Read.{Read}
 use Rattle.model_text.specs.declared.reading.Read.the-variants.{Done, Refused}
 use Rattle.model_text.specs.declared.writing.Written.the-variants as writer
-use Rattle.model_text.specs.Meant.{GivenTest, meant, Answered, LengthOf, Wrote}
+use Rattle.model_text.specs.Meant.{GivenTest, meant, Answered, LengthOf, WroteModel}
 use Rattle.model_text.proofs.Laws.Sameness.{same-true, same-self}
 use Rattle.model_text.proofs.Laws.Writing.{end-room}
 
@@ -73,7 +73,7 @@ module _ (t again : List ℕ) where
 -- ---- what the writer answers
 
 -- a table of another size is given by no text
-pub wrote-size : (t b : List ℕ) → (length t ≡ size → ⊥) → Wrote t b (writer.Refused notProper 0) b
+pub wrote-size : (t b : List ℕ) → (length t ≡ size → ⊥) → WroteModel t b (writer.Refused notProper 0) b
 wrote-size t b n =
     record {
       none = λ g. (refl, refl);
@@ -81,7 +81,7 @@ wrote-size t b n =
       text = λ s e h. absurd (n (given-length t (record { text = s; reads = e })));
     }
 
-pub wrote-none : (t b : List ℕ) (n : ℕ) → LengthOf t n → n ≡ 0 → Wrote t b (writer.Refused notProper 0) b
+pub wrote-none : (t b : List ℕ) (n : ℕ) → LengthOf t n → n ≡ 0 → WroteModel t b (writer.Refused notProper 0) b
 wrote-none t b n l z =
     record {
       none = λ g. (refl, refl);
@@ -89,7 +89,7 @@ wrote-none t b n l z =
       text = λ s e h. absurd (l .none z (record { text = s; reads = e }));
     }
 
-pub wrote-short : (t b : List ℕ) (n : ℕ) → LengthOf t n → (n ≡ 0 → ⊥) → length b < n → Wrote t b (writer.Refused wrongRoom 0) b
+pub wrote-short : (t b : List ℕ) (n : ℕ) → LengthOf t n → (n ≡ 0 → ⊥) → length b < n → WroteModel t b (writer.Refused wrongRoom 0) b
 wrote-short t b n l z h =
     let w = l .some z in
     record {
@@ -98,7 +98,7 @@ wrote-short t b n l z h =
       text = λ s e k. absurd (let q = ap length (given-text s t e) in omega (arith, w .1));
     }
 
-pub wrote-text : (t b b′ : List ℕ) (n m : ℕ) → LengthOf t n → (n ≡ 0 → ⊥) → n ≤ length b → Put b 0 (write format t) b′ m → Wrote t b (writer.Done n) b′
+pub wrote-text : (t b b′ : List ℕ) (n m : ℕ) → LengthOf t n → (n ≡ 0 → ⊥) → n ≤ length b → Put b 0 (write format t) b′ m → WroteModel t b (writer.Done n) b′
 wrote-text t b b′ n m l z h p =
     let w = l .some z in
     record {

@@ -13,7 +13,7 @@ use Rattle.model_text.specs.declared.reading.Read.{Read}
 use Rattle.model_text.specs.declared.reading.Read.the-variants.{Done, Refused}
 use Rattle.model_text.specs.declared.writing.Written.{Written}
 use Rattle.model_text.specs.declared.writing.Written.the-variants as writer
-use Rattle.model_text.specs.Meant.{meant, Answered, written, Wrote, LengthOf, GivenTest}
+use Rattle.model_text.specs.Meant.{meant, Answered, written, WroteModel, LengthOf, GivenTest}
 
 same-read : (r s : Read) (t u : List ℕ) (a : Answer (List ℕ)) → meant r t ≡ a → meant s u ≡ a → r ≡ s
 same-read Done Done t u a p q = cc
@@ -35,7 +35,7 @@ both : (r₁ r₂ : Written) (a : Answer ℕ) (b₁ b₂ c : List ℕ) → (writ
 both r₁ r₂ a b₁ b₂ c p q = (same-written r₁ r₂ a (p .0) (q .0), p .1 ∙ sym (q .1))
 
 -- the answer, and what is left in the lent buffer
-pub write-once : (t b : List ℕ) (r₁ r₂ : Written) (b₁ b₂ : List ℕ) → Wrote t b r₁ b₁ → Wrote t b r₂ b₂ → (r₁ ≡ r₂) × (b₁ ≡ b₂)
+pub write-once : (t b : List ℕ) (r₁ r₂ : Written) (b₁ b₂ : List ℕ) → WroteModel t b r₁ b₁ → WroteModel t b r₂ b₂ → (r₁ ≡ r₂) × (b₁ ≡ b₂)
 write-once t b r₁ r₂ b₁ b₂ p q =
     by-given t
     (λ e. by-lt (length b) (length (write format t))

@@ -1,14 +1,15 @@
 -- `step_reach::step` meets its contract.
 -- Assumes nothing.
-use mathlib.Core.Path.{_≡_}
 use Rattle.meaning.specs.Text.ModelReader.{Given}
 use Rattle.meaning.specs.Text.ModelTable.{decode}
+use Rattle.meaning.proofs.Tests.{never}
 use Rattle.model_table.specs.Right.{RightTable}
 use Rattle.model_table.proofs.GivenLaws.{given-table}
-use Rattle.zone.specs.Stands.{zoneOf, Lendable}
-use Rattle.step_bounds.specs.Moves.{Listed}
+use Rattle.home.specs.Stands.{homeOf}
+use Rattle.zone_list.specs.Steps.{Listed}
+use Rattle.zone.specs.Stands.{Lendable}
+use Rattle.zone.proofs.LendableLaws.{lent-ranged, lent-takable}
 use Rattle.step_reach.specs.Replies.{bad, unlisted, right}
-use Rattle.step_reach.proofs.TestLaws.{never}
 use Rattle.step_reach.proofs.step.Statement.{statement}
 use Rattle.step_reach.proofs.step.Tie as tie
 
@@ -30,26 +31,30 @@ is-zone-requires c κs = table c
 lent : (c : tie.Then2) → let s = c .before .before .before .before .before in Lendable (decode (s .args .model .now)) (s .args .zone)
 lent c = c .before .is-zone .ensures .0 (c .if2 .taken)
 
-in-list-requires : tie.Need-in-list-requires
-in-list-requires c κs = (table (c .before .before), lent c)
+has-requires : tie.Need-has-requires
+has-requires c κs = let d = c .before .before in (table (d .before .before), lent d .home)
 
 -- the step is in its list
-listed : (c : tie.Then3) → let s = c .before .before .before .before .before .before .before in Listed (decode (s .args .model .now)) (zoneOf (s .args .zone)) (s .args .step)
-listed c = c .before .in-list .ensures .0 (c .if3 .taken)
+listed : (c : tie.Then3) → let s = c .before .before .before .before .before .before .before .before .before in Listed (decode (s .args .model .now)) (homeOf (s .args .zone .home)) (s .args .step)
+listed c = c .before .has .ensures .0 (c .if3 .taken)
 
 stepped-requires : tie.Need-stepped-requires
-stepped-requires c κs = let d = c .before .before in (table (d .before .before), (lent d, listed c))
+stepped-requires c κs =
+    let d = c .before .before .before .before in
+    let s = d .before .before .before .before .before in
+    let m = decode (s .args .model .now) in
+    (table (d .before .before), (lent d .home, (lent-ranged m (s .args .zone) (lent d), (lent-takable m (s .args .zone) (lent d), listed c))))
 
 returns : tie.Need-returns
-returns c = let d = c .before .before .before in right (given (d .before .before)) (lent d) (listed (c .before)) (c .stepped .ensures)
+returns c = let d = c .before .before .before .before .before in right (given (d .before .before)) (lent d) (listed (c .before)) (c .stepped .ensures)
 
 refusal-requires : tie.Need-refusal-requires
 refusal-requires c κs = tt
 
 returns-2 : tie.Need-returns-2
 returns-2 c =
-    let d = c .before .before .before in
-    unlisted (given (d .before .before)) (lent d) (λ w. never (c .before .before .in-list .ensures .1 w) (c .before .if3 .left)) (c .refusal .ensures)
+    let d = c .before .before .before .before .before in
+    unlisted (given (d .before .before)) (lent d) (λ w. never (c .before .before .has .ensures .1 w) (c .before .if3 .left)) (c .refusal .ensures)
 
 refusal-requires-2 : tie.Need-refusal-requires-2
 refusal-requires-2 c κs = tt
@@ -69,7 +74,7 @@ step-spec =
     (tie.spec
     is-model-requires
     is-zone-requires
-    in-list-requires
+    has-requires
     stepped-requires
     returns
     refusal-requires

@@ -3,7 +3,7 @@
 use mathlib.Core.Logic.{⊎-elim}
 use borrow.Author.Needs.{needs}
 use Rattle.model_table.proofs.GivenLaws.{given-table}
-use Rattle.step_reach.proofs.TestLaws.{never}
+use Rattle.meaning.proofs.Tests.{never}
 use Rattle.verdict.specs.Answers.{unusable, right}
 use Rattle.verdict.proofs.check.Statement.{statement}
 use Rattle.verdict.proofs.check.Tie as tie

@@ -1,6 +1,6 @@
 -- BD: a law for each way out.
 -- Assumes nothing.
-use Prim.Native.Nat.{ℕ, _+_, _-_, _*_, _≤_, _<_}
+use Prim.Native.Nat.{ℕ, suc, _+_, _-_, _*_, _≤_, _<_}
 use mathlib.Core.Path.{_≡_, refl, sym, ap, _∙_}
 use mathlib.Core.Bool.{Bool, true, false, not, _&&_}
 use mathlib.Core.List.{List, [], _∷_}
@@ -29,7 +29,7 @@ use Rattle.meaning.proofs.Text.BoundLaws.{cursor, cursor-last, over-of, raised-
 use Rattle.meaning.proofs.Text.LineLaws.{fields-inv}
 use Rattle.meaning.proofs.Text.ProposalStore.{store-bound}
 use Rattle.zone_text.specs.declared.reading_records.Sofar.{Sofar}
-use Rattle.zone_text.specs.declared.reading_records.Step.the-variants.{Next}
+use Rattle.zone_text.specs.declared.reading_records.Taken.the-variants.{Next}
 use Rattle.zone_text.specs.declared.reading_rows.Bound as declared
 use Rattle.zone_text.specs.Rows.{BoundTold}
 use Rattle.zone_text.specs.Held.{Holds, Sound, Stands, Took, behind}
@@ -50,7 +50,7 @@ module _ (m : Model) (r : RightModel m) (s : List ℕ) (at : ℕ) (y : reader.So
       go (begun zs z) w = let e = w .1 in nonsense (cc)
 
   -- what the line came to
-  module _ (d : x .due ≡ true) (n : ℕ) (e : n ≡ m .clocks + 2 * x .len) (few : n ≤ 16) (b : declared.Bound)
+  module _ (d : x .due ≡ true) (n : ℕ) (e : n ≡ suc (m .clocks + (x .len + x .len)) - 1) (few : n ≤ 16) (b : declared.Bound)
       (told : BoundTold (fields (between 0 n ∷ between 0 n ∷ around boundMost ∷ []) s (at + 2)) b) where
     abbrev line : Fields
     line = fields (between 0 n ∷ between 0 n ∷ around boundMost ∷ []) s (at + 2)
@@ -116,15 +116,18 @@ module _ (m : Model) (r : RightModel m) (s : List ℕ) (at : ℕ) (y : reader.So
       pub bound-low : (b .i ≡ b .j → ⊥) → 17 * b .i + b .j < x .cursor → lookBound m s at y ≡ wrong notRising at
       bound-low q l = not-risen (rw (ne-eqb (b .i) (b .j) q, lt-leb (x .cursor) (17 * b .i + b .j) l))
 
-      pub bound-taken : (b .i ≡ b .j → ⊥) → x .cursor ≤ 17 * b .i + b .j
+      pub bound-taken : (from : ℕ) → from ≡ 384 + 289 * (x .zones + 1 - 1) → (b .i ≡ b .j → ⊥) → x .cursor ≤ 17 * b .i + b .j
           → Took (lookBound m s at y) y (Next (b .at) (record { zones = x .zones; due = true; len = x .len; cursor = 17 * b .i + b .j + 1; pool = x .pool })) t
-          (set t (384 + 289 * x .zones + (17 * b .i + b .j)) (b .c + 1))
+          (set t (from + (17 * b .i + b .j)) (b .c + 1))
       unfolding put
-      bound-taken q l = go y (h .stands) (h .sound) (h .table)
+      bound-taken from first q l = go y (h .stands) (h .sound) (h .table)
         where
+          same-zone : x .zones + 1 - 1 ≡ x .zones
+          same-zone = omega arith
+
           go : (y : reader.Sofar) → Stands y x → Sound m y → t ≡ encode (proposalOf y)
               → Took (lookBound m s at y) y (Next (b .at) (record { zones = x .zones; due = true; len = x .len; cursor = 17 * b .i + b .j + 1; pool = x .pool })) t
-              (set t (384 + 289 * x .zones + (17 * b .i + b .j)) (b .c + 1))
+              (set t (from + (17 * b .i + b .j)) (b .c + 1))
           go (whole zs) w g f = let q = w .1 in nonsense (cc)
           go (begun zs z) w g f =
               let p : not (eqb (b .i) (b .j)) && leb (x .cursor) (17 * b .i + b .j) ≡ true = rw (ne-eqb (b .i) (b .j) q, le-leb (x .cursor) (17 * b .i + b .j) l) in
@@ -137,6 +140,6 @@ module _ (m : Model) (r : RightModel m) (s : List ℕ) (at : ℕ) (y : reader.So
               let k : RightBound (variables m (z .order) - 1) boundMost this = record { i = omega arith; j = omega arith; two = q; least = omega arith; most = omega arith } in
               let j = store-bound m r zs z this g (k, every-each (λ (c : Bound). before c this) (z .bounds) v) in
               took-next (lookBound m s at (begun zs z)) (begun zs z) (bound this) (b .at) (record { zones = x .zones; due = true; len = x .len; cursor = 17 * b .i + b .j + 1; pool = x .pool }) t
-              (set t (384 + 289 * x .zones + (17 * b .i + b .j)) (b .c + 1)) (seen zs z w ∙ rw o)
+              (set t (from + (17 * b .i + b .j)) (b .c + 1)) (seen zs z w ∙ rw o)
               (w .0, refl, w .2, w .3, add-one (17 * b .i + b .j) ∙ sym (behind-is (reader.withBound z this .bounds) ∙ cursor-last 17 (z .bounds) this))
-              (rw (f, w .0, add-one (b .c)) (sym (j ∙ rw (raised-of boundMost (b .c)))))
+              (rw (f, first, same-zone, w .0, add-one (b .c)) (sym (j ∙ rw (raised-of boundMost (b .c)))))

@@ -1,17 +1,17 @@
 -- GO: a law for each way out.
 -- Assumes nothing.
-use Prim.Native.Nat.{ℕ, zero, suc, _+_, _-_, _*_, _≤_, _<_}
-use mathlib.Core.Path.{_≡_, refl, sym, ap, _∙_}
+use Prim.Native.Nat.{ℕ, suc, _+_, _-_, _*_, _≤_, _<_}
+use mathlib.Core.Path.{_≡_, refl, sym, ap, _∙_, subst}
 use mathlib.Core.Bool.{true, false}
 use mathlib.Core.List.{List, [], _∷_, _++_, map}
 use mathlib.Core.Option.{some}
 use native.Mathlib.Omega.{arith}
-use lib.Dec.{eqb}
-use lib.ListN.{length, getD, getElem?, set, length-append}
+use lib.ListN.{length, getD, getElem?, set, take, length-append}
 use lib.Seq.{sets}
 use borrow.Author.Tests.{eq-eqb, ne-eqb}
 use Rattle.meaning.specs.Model.{Model}
 use Rattle.meaning.specs.Zones.Zone.{Zone, widest}
+use Rattle.meaning.specs.Zones.Reached as R
 use Rattle.meaning.specs.Zones.Steps.{steps}
 use Rattle.meaning.specs.Text.Choice.{pick}
 use Rattle.meaning.specs.Text.Ranges.{zonesMost}
@@ -19,26 +19,29 @@ use Rattle.meaning.specs.Text.Refusals.{markNotHere, wrongClaims}
 use Rattle.meaning.specs.Text.Lines.{Fields, ok, bad, out, between, fieldsUpTo, fieldsMore}
 use Rattle.meaning.specs.Text.RecordRow.{Met, next, wrong}
 use Rattle.meaning.specs.Text.RightModel.{RightModel}
-use Rattle.meaning.specs.Text.RightProposal.{claimsFit, zeroDue, zerosAt}
+use Rattle.meaning.specs.Text.RightProposal.{RightOrder, claimsFit, zeroDue, zerosAt}
 use Rattle.meaning.specs.Text.ModelReader.{words}
 use Rattle.meaning.specs.Text.ProposalTable.{allClaims, encode}
 use Rattle.meaning.specs.Text.ProposalReader.{Entry, whole, begun, claims, put, proposalOf, judged, lookClaims, withClaims}
 use Rattle.meaning.specs.Text.ProposalReader as reader
 use Rattle.meaning.proofs.Text.Choices.{nonsense}
 use Rattle.meaning.proofs.Text.Keyed.{nth-some}
-use Rattle.meaning.proofs.Text.ModelCells.{sets-other}
 use Rattle.meaning.proofs.Text.ProposalEncode.{encode-length, location-cell, task-cell, nth-past}
 use Rattle.meaning.proofs.Text.ProposalStore.{claims-more, store-claims}
 use Rattle.meaning.proofs.Zones.Counting.{steps-most}
-use Rattle.steps.specs.declared.claims.Steps.{Steps}
+use Rattle.home.specs.declared.Home.{Home}
+use Rattle.home.specs.Stands.{orderOf, homeOf, RightHome}
+use Rattle.zone_list.specs.declared.form.Steps.{Steps}
+use Rattle.zone_list.specs.Steps.{listAt}
+use Rattle.zone_list.specs.Counted.{numbersIn, zerosKept, StepsAre}
+use Rattle.zone_table.specs.Read.{HomeRead}
+use Rattle.zone_table.proofs.ReadLaws.{standing, numbers-length}
 use Rattle.zone_text.specs.declared.reading_records.Sofar.{Sofar}
-use Rattle.zone_text.specs.declared.reading_records.Step.the-variants.{Next}
+use Rattle.zone_text.specs.declared.reading_records.Taken.the-variants.{Next}
 use Rattle.zone_text.specs.declared.reading_rows.Row.{Row}
-use Rattle.steps.specs.Counted.{numbersIn, locationIn, headIn, StepsAre}
 use Rattle.zone_text.specs.Rows.{RowTold}
-use Rattle.zone_text.specs.Held.{Holds, Sound, Stands, Took}
+use Rattle.zone_text.specs.Held.{Holds, Sound, Stands, Begun, Took}
 use Rattle.zone_text.proofs.Laws.Orders.{took-next, stored-numbers}
-use Rattle.steps.proofs.Laws.Walking.{numbers-length}
 
 -- numbers that stand in a row of cells
 pub numbers-row : (t cs : List ℕ) (k : ℕ) → ((x v : ℕ) → getElem? cs x ≡ some v → getD t (k + x) 0 ≡ suc v) → numbersIn t k (length cs) ≡ cs
@@ -56,32 +59,43 @@ same-table : (t t′ u : List ℕ) (pool p zones n many k : ℕ) (vs : List ℕ)
     → set t′ (8 * zones + 7) (pool + many) ≡ set (sets u (14256 + p) (map suc vs)) (8 * n + 7) (p + k)
 same-table t t′ u pool p zones n many k vs a b c d e = rw (a, b, c, d, e)
 
--- the head of a zone that is begun, after claims were stored
-module _ (zs : List Zone) (z : Zone) (room : length zs < 48) (few : length (z .order) ≤ 6) (q : ℕ) (vs : List ℕ) (far : 14256 ≤ q) where
-  abbrev before : List ℕ
-  before = encode (record { zones = zs ++ z ∷ [] })
-
-  abbrev after : List ℕ
-  after = sets before q (map suc vs)
+-- the location and the queue order of a zone that is begun
+module _ (zs : List Zone) (z : Zone) (room : length zs < 48) (few : length (z .order) ≤ 6) (k : ℕ) (e : k ≡ length zs) where
+  abbrev table : List ℕ
+  table = encode (record { zones = zs ++ z ∷ [] })
 
   here : getElem? (zs ++ z ∷ []) (length zs) ≡ some z
   here = let e : length zs + 0 ≡ length zs = omega arith in rw e at (nth-past zs (z ∷ []) 0)
 
-  as-before : (k : ℕ) → k < 14256 → getD after k 0 ≡ getD before k 0
-  as-before k h = sets-other (map suc vs) before q k (λ x a b. omega arith)
+  location-here : getD table (8 * k) 0 - 1 ≡ z .location
+  location-here = let c = location-cell (record { zones = zs ++ z ∷ [] }) (length zs) z room here in rw e (omega arith)
 
-  location-same : locationIn after (length zs) ≡ z .location
-  location-same =
-      let c = as-before (8 * length zs) (omega arith) ∙ location-cell (record { zones = zs ++ z ∷ [] }) (length zs) z room here in
-      omega arith
+  order-here : (n : ℕ) → n ≡ length (z .order) → numbersIn table (8 * k + 1) n ≡ z .order
+  order-here n f = rw (e, f) (numbers-row table (z .order) (8 * length zs + 1) (λ x v g.
+      let l = nth-some (z .order) x v g in
+      task-cell (record { zones = zs ++ z ∷ [] }) (length zs) z room here x (omega arith) ∙ rw g))
 
-  order-same : (n : ℕ) → n ≡ length (z .order) → numbersIn after (8 * length zs + 1) n ≡ z .order
-  order-same n e = rw e (numbers-row after (z .order) (8 * length zs + 1) (λ x v f.
-      let l = nth-some (z .order) x v f in
-      as-before (8 * length zs + 1 + x) (omega arith) ∙ task-cell (record { zones = zs ++ z ∷ [] }) (length zs) z room here x (omega arith) ∙ rw f))
+  pub order-right : (m : Model) (n : ℕ) → n ≡ length (z .order) → RightOrder m (z .location) (z .order) → RightOrder m (getD table (8 * k) 0 - 1) (numbersIn table (8 * k + 1) n)
+  order-right m n f r = rw (location-here, order-here n f) r
 
-  pub head-same : (k n : ℕ) → k ≡ length zs → n ≡ length (z .order) → headIn after k n ≡ widest (z .location) (z .order)
-  head-same k n e f = rw (e, location-same, order-same n f)
+  pub home-here : (n : ℕ) → n ≡ length (z .order) → (h : Home) → HomeRead table k n h → homeOf h ≡ record { location = z .location; order = z .order }
+  home-here n f h w =
+      ap (λ (l : ℕ). standing l (orderOf h)) (w .location ∙ location-here)
+      ∙ ap (standing (z .location)) (ap (λ (i : ℕ). take i (h .tasks)) (w .count) ∙ w .tasks .is ∙ order-here n f)
+
+-- what is asked before GO holds of what was read
+pub begun-is : (m : Model) (y : reader.Sofar) (x : Sofar) (t : List ℕ) → Sound m y → Stands y x → t ≡ encode (proposalOf y) → Begun m x t
+unfolding proposalOf
+begun-is m (whole zs) x t so st tb = record { order = λ q. nonsense (let p = st .1 in (cc)) }
+begun-is m (begun zs z) x t so st tb = record { order = λ q. rw tb (order-right zs z (so .0) (so .2 .few) (x .zones) (st .0) m (x .len) (st .3) (so .2)) }
+
+-- and the location with its queue order may be lent
+pub begun-home : (m : Model) (x : Sofar) (t : List ℕ) (h : Home) → Begun m x t → x .due ≡ true → x .len ≤ 6 → HomeRead t (x .zones + 1 - 1) (x .len) h → RightHome m h
+begun-home m x t h b d few w =
+    let z : x .zones + 1 - 1 ≡ x .zones = omega arith in
+    let o : orderOf h ≡ numbersIn t (8 * x .zones + 1) (x .len) = ap (λ (i : ℕ). take i (h .tasks)) (w .count) ∙ w .tasks .is ∙ ap (λ (i : ℕ). numbersIn t (8 * i + 1) (x .len)) z in
+    let l : h .location ≡ getD t (8 * x .zones) 0 - 1 = w .location ∙ ap (λ (i : ℕ). getD t (8 * i) 0 - 1) z in
+    record { few = omega (arith, w .count); order = rw (l, o) (b .order d); unused = λ i g. w .tasks .unused i (omega (arith, w .count)) }
 
 module _ (m : Model) (r : RightModel m) (s : List ℕ) (at : ℕ) (y : reader.Sofar) (x : Sofar) (t : List ℕ) (h : Holds m y x t) where
   pub claims-due : x .due ≡ false → lookClaims m s at y ≡ wrong markNotHere at
@@ -134,13 +148,18 @@ module _ (m : Model) (r : RightModel m) (s : List ℕ) (at : ℕ) (y : reader.So
         go (bad k) w q = absurd (let q = w .0 in omega arith)
         go (out k) w q = absurd (let q = w .0 in omega arith)
 
-    module _ (a : b .refusal ≤ 0) (few : x .len ≤ 6) (w : Steps) (steps-are : StepsAre m (headIn t′ (x .zones) (x .len)) t′ (14256 + x .pool) w) where
+    module _ (a : b .refusal ≤ 0) (few : x .len ≤ 6) (o : Home) (there : HomeRead t (x .zones + 1 - 1) (x .len) o) (w : Steps) (steps-are : StepsAre m (homeOf o) t′ (14256 + x .pool) w) where
+      same-zone : x .zones + 1 - 1 ≡ x .zones
+      same-zone = omega arith
+
       vs : List ℕ
       vs = read a .numbers
 
       -- the steps that the code counted are at most 226
       w-most : w .many ≤ 226
-      w-most = omega (arith, steps-are .many, steps-most m (headIn t′ (x .zones) (x .len)) (omega (arith, numbers-length t′ (8 * x .zones + 1) (x .len))) (r .edges-high))
+      w-most =
+          let n = ap (λ (i : ℕ). length (take i (o .tasks))) (there .count) ∙ ap length (there .tasks .is) ∙ numbers-length t (8 * (x .zones + 1 - 1) + 1) (x .len) in
+          omega (arith, steps-are .many, steps-most m (widest (o .location) (orderOf o)) (omega (arith, n)) (r .edges-high))
 
       -- of a zone that is begun, with claims that fit the room, they are the zone's
       module _ (zs : List Zone) (z : Zone) (st : Stands (begun zs z) x) (so : Sound m (begun zs z)) (tb : t ≡ encode (proposalOf (begun zs z))) (n : b .many ≤ 226) where
@@ -148,18 +167,19 @@ module _ (m : Model) (r : RightModel m) (s : List ℕ) (at : ℕ) (y : reader.So
         unfolding proposalOf
         stored = read a .stored (omega (arith, read a .many)) ∙ ap (λ (l : List ℕ). sets l (14256 + x .pool) (map suc (read a .numbers))) tb
 
-        head-is : headIn t′ (x .zones) (x .len) ≡ widest (z .location) (z .order)
-        head-is =
-            ap (λ (l : List ℕ). headIn l (x .zones) (x .len)) stored
-            ∙ head-same zs z (so .0) (so .2 .few) (14256 + x .pool) (read a .numbers) (omega arith) (x .zones) (x .len) (st .0) (st .3)
+        home-is : homeOf o ≡ record { location = z .location; order = z .order }
+        unfolding proposalOf
+        home-is =
+            home-here zs z (so .0) (so .2 .few) (x .zones) (st .0) (x .len) (st .3) o
+            (subst (λ (l : List ℕ). HomeRead l (x .zones) (x .len) o) tb (subst (λ (k : ℕ). HomeRead t k (x .len) o) same-zone there))
 
         many-is : w .many ≡ length (steps m z)
-        many-is = steps-are .many ∙ ap (λ (v : Zone). length (steps m v)) head-is
+        many-is = steps-are .many ∙ ap (λ (v : R.Home). length (listAt m v)) home-is
 
         zeros-are : b .many ≡ w .many → x .pool + 226 ≤ 32767 → w .zeros ≡ zerosAt (zeroDue m z) (steps m z) (read a .numbers)
         zeros-are q p =
             let e = read a .many in
-            steps-are .zeros ∙ ap (λ (v : Zone). zerosAt (zeroDue m v) (steps m v) (numbersIn t′ (14256 + x .pool) (length (steps m v)))) head-is
+            steps-are .zeros ∙ ap (λ (v : R.Home). zerosKept m v t′ (14256 + x .pool)) home-is
             ∙ ap (zerosAt (zeroDue m z) (steps m z))
             (ap (λ (l : List ℕ). numbersIn l (14256 + x .pool) (length (steps m z))) stored
             ∙ stored-numbers (encode (record { zones = zs ++ z ∷ [] })) (14256 + x .pool) (length (steps m z)) (read a .numbers) (omega (arith, many-is)) (omega (arith, encode-length (record { zones = zs ++ z ∷ [] }))))
@@ -188,13 +208,13 @@ module _ (m : Model) (r : RightModel m) (s : List ℕ) (at : ℕ) (y : reader.So
           let g : zerosAt (zeroDue m z) (steps m z) (read a .numbers) ≡ false = sym (zeros-are zs z st so tb (omega arith) q p) ∙ f in
           rw (eq-eqb (length (read a .numbers)) (length (steps m z)) (omega arith), g))
 
-      pub claims-taken : b .many ≡ w .many → x .pool + 226 ≤ 32767 → w .zeros ≡ true
-          → Took (lookClaims m s at y) y (Next (b .at) (record { zones = x .zones + 1; due = false; len = 0; cursor = 0; pool = x .pool + b .many })) t (set t′ (8 * x .zones + 7) (x .pool + b .many))
+      pub claims-taken : (head : ℕ) → head ≡ 8 * (x .zones + 1 - 1) → b .many ≡ w .many → x .pool + 226 ≤ 32767 → w .zeros ≡ true
+          → Took (lookClaims m s at y) y (Next (b .at) (record { zones = x .zones + 1; due = false; len = 0; cursor = 0; pool = x .pool + b .many })) t (set t′ (head + 7) (x .pool + b .many))
       unfolding put
-      claims-taken q p f = go y (h .stands) (h .sound) (h .table)
+      claims-taken head first q p f = go y (h .stands) (h .sound) (h .table)
         where
           go : (v : reader.Sofar) → Stands v x → Sound m v → t ≡ encode (proposalOf v)
-              → Took (lookClaims m s at v) v (Next (b .at) (record { zones = x .zones + 1; due = false; len = 0; cursor = 0; pool = x .pool + b .many })) t (set t′ (8 * x .zones + 7) (x .pool + b .many))
+              → Took (lookClaims m s at v) v (Next (b .at) (record { zones = x .zones + 1; due = false; len = 0; cursor = 0; pool = x .pool + b .many })) t (set t′ (head + 7) (x .pool + b .many))
           go (whole zs) st so tb = let q = st .1 in nonsense (cc)
           go (begun zs z) st so tb =
               let e = read a .many in
@@ -204,11 +224,12 @@ module _ (m : Model) (r : RightModel m) (s : List ℕ) (at : ℕ) (y : reader.So
               let g : zerosAt (zeroDue m z) (steps m z) (read a .numbers) ≡ true = sym (zeros-are zs z st so tb (omega arith) q p) ∙ f in
               let j : claimsFit m z (read a .numbers) ≡ true = rw (eq-eqb (length (read a .numbers)) (length (steps m z)) (omega arith), g) in
               took-next (lookClaims m s at (begun zs z)) (begun zs z) (claims (read a .numbers)) (b .at) (record { zones = x .zones + 1; due = false; len = 0; cursor = 0; pool = x .pool + b .many }) t
-              (set t′ (8 * x .zones + 7) (x .pool + b .many)) (read a .seen zs z ∙ rw j) (
+              (set t′ (head + 7) (x .pool + b .many)) (read a .seen zs z ∙ rw j) (
                 omega (arith, st .0, length-append zs (withClaims z (read a .numbers) ∷ [])),
                 refl,
                 omega (arith, ap length (claims-more zs (withClaims z (read a .numbers))), length-append (allClaims zs) (read a .numbers)),
                 refl,
               )
-              (same-table t t′ (encode (proposalOf (begun zs z))) (x .pool) (length (allClaims zs)) (x .zones) (length zs) (b .many) (length (read a .numbers)) (read a .numbers) (read a .stored (omega arith)) tb (st .2) (st .0) e
+              (ap (λ (k : ℕ). set t′ (k + 7) (x .pool + b .many)) (first ∙ ap (λ (k : ℕ). 8 * k) same-zone)
+              ∙ same-table t t′ (encode (proposalOf (begun zs z))) (x .pool) (length (allClaims zs)) (x .zones) (length zs) (b .many) (length (read a .numbers)) (read a .numbers) (read a .stored (omega arith)) tb (st .2) (st .0) e
               ∙ sym (store-claims m r zs z (read a .numbers) so (omega arith)))

@@ -1,6 +1,6 @@
 -- EN: a law for each way out.
 -- Assumes nothing.
-use Prim.Native.Nat.{ℕ, _+_, _-_, _≤_, _<_}
+use Prim.Native.Nat.{ℕ, _+_, _≤_, _<_}
 use mathlib.Core.Path.{_≡_, refl, sym, ap, _∙_}
 use mathlib.Core.Bool.{Bool, true, false, _&&_}
 use mathlib.Core.List.{List, [], _∷_, _++_}
@@ -22,8 +22,9 @@ use Rattle.meaning.proofs.Text.Choices.{nonsense}
 use Rattle.meaning.proofs.Text.Keyed.{nth-some}
 use Rattle.meaning.proofs.Text.ProposalEncode.{pool-cell}
 use Rattle.zone_text.specs.declared.reading_records.Sofar.{Sofar}
-use Rattle.zone_text.specs.declared.reading_records.Step.the-variants.{End}
-use Rattle.steps.specs.Counted.{numbersIn, noneAbove}
+use Rattle.zone_text.specs.declared.reading_records.Taken.the-variants.{End}
+use Rattle.zone_list.specs.Counted.{numbersIn}
+use Rattle.zone_table.specs.Read.{noneAbove}
 use Rattle.zone_text.specs.Held.{Holds, Stands, Took}
 use Rattle.zone_text.proofs.Laws.Claims.{numbers-row}
 

@@ -1,11 +1,11 @@
 -- The reader's loop: what holds before each record, a law for each way out of a turn, and the reader's answer for each case.
 -- Assumes nothing.
-use Prim.Native.Nat.{ℕ, _-_, _*_, _≤_, _<_}
+use Prim.Native.Nat.{ℕ, _*_, _≤_, _<_}
 use mathlib.Core.Path.{_≡_, refl, sym, ap, _∙_, subst}
 use mathlib.Core.Bool.{true, false}
 use mathlib.Core.List.{List, [], _∷_}
 use native.Mathlib.Omega.{arith}
-use lib.ListN.{length, getD, replicate, length-append, length-replicate, getD-replicate}
+use lib.ListN.{length, replicate, length-append, length-replicate, getD-replicate}
 use lib.Seq.{ext-getD}
 use borrow.Author.Tests.{eq-eqb, ne-eqb, lt-ltb, le-ltb}
 use Rattle.meaning.specs.Model.{Model}
@@ -18,6 +18,7 @@ use Rattle.meaning.specs.Text.RightModel.{Each, RightModel}
 use Rattle.meaning.specs.Text.RightProposal.{RightZone}
 use Rattle.meaning.specs.Text.ModelTable.{decode}
 use Rattle.meaning.specs.Text.ModelReader.{left}
+use Rattle.model_table.specs.Right.{RightTable}
 use Rattle.meaning.specs.Text.ProposalTable.{size, allClaims, encode, headCell, boundCell}
 use Rattle.meaning.specs.Text.ProposalReader.{Entry, whole, begun, put, proposalOf, look, row, stored, readProposal}
 use Rattle.meaning.specs.Text.ProposalReader as reader
@@ -28,14 +29,14 @@ use Rattle.meaning.proofs.Text.ProposalStore.{by-cell}
 use Rattle.meaning.proofs.Text.ProposalLoop.{ReadingTo, look-next}
 use Rattle.meaning.proofs.Text.RecordRowLoop.{reading-first, reading-more, reading-closed, reading-wrong}
 use Rattle.meaning.proofs.Zones.Counting.{steps-most}
-use Rattle.model_table.specs.Right.{RightTable}
 use Rattle.zone_text.specs.declared.reading_records.Sofar.{Sofar}
-use Rattle.zone_text.specs.declared.reading_records.Step.{Step}
-use Rattle.zone_text.specs.declared.reading_records.Step.the-variants.{Next, End, Fault}
+use Rattle.zone_text.specs.declared.reading_records.Taken.{Taken}
+use Rattle.zone_text.specs.declared.reading_records.Taken.the-variants.{Next, End, Fault}
 use Rattle.zone_text.specs.declared.reading.Read.{Read}
 use Rattle.zone_text.specs.declared.reading.Read.the-variants.{Done, Refused}
-use Rattle.zone_text.specs.Held.{Holds, Ready, Sound, Stands, Took}
+use Rattle.zone_text.specs.Held.{Holds, Ready, Sound, Stands, Begun, Took}
 use Rattle.zone_text.specs.Meant.{Answered}
+use Rattle.zone_text.proofs.Laws.Claims.{begun-is}
 
 -- ---- how many claims there are
 
@@ -122,7 +123,10 @@ module _ (b s : List ℕ) (at : ℕ) (x : Sofar) (t : List ℕ) (r : ReadingAt b
         pool = omega (arith, w .0, w .2, pool-few (decode b) (r .model .right) zs (g .1));
       }
 
-  module _ (p : Step) (t′ : List ℕ) (w : Took (look (decode b) s at (r .sofar)) (r .sofar) p t t′) where
+  pub begun-ready : Begun (decode b) x t
+  begun-ready = begun-is (decode b) (r .sofar) x t is-sound (r .stands) (r .table)
+
+  module _ (p : Taken) (t′ : List ℕ) (w : Took (look (decode b) s at (r .sofar)) (r .sofar) p t t′) where
     pub turn-next : (k : ℕ) (c : Sofar) → p ≡ Next k c → (at < k) × (k ≤ length s) × ReadingAt b s k c t′
     turn-next k c e = go (look (decode b) s at (r .sofar)) refl w
       where

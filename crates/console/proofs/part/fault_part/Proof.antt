@@ -11,7 +11,7 @@ use Rattle.console.proofs.part.fault_part.Reads as reads
 use Rattle.console.proofs.part.fault_part.Lts as lts
 use Rattle.console.proofs.part.part_from.Reads as part-from-reads
 use Rattle.console.proofs.part.proposal_part.Reads as proposal-part-reads
-use Rattle.model_text.proofs.reading.read_model.Reads as read-model-reads
+use Rattle.model_text.proofs.read_model.Reads as read-model-reads
 
 slice-aggregate-read-model : tie.Need-slice-aggregate-read-model
 slice-aggregate-read-model c = search needs

@@ -9,7 +9,6 @@ use Rattle.console.proofs.part.proposal_part.Tie as tie
 use Rattle.console.proofs.part.proposal_part.Reads as reads
 use Rattle.console.proofs.part.proposal_part.Lts as lts
 use Rattle.console.proofs.part.part_from.Reads as part-from-reads
-use Rattle.zone_text.proofs.reading.read_proposal.Reads as read-proposal-reads
 
 slice-aggregate-read-proposal : tie.Need-slice-aggregate-read-proposal
 slice-aggregate-read-proposal c = search needs

@@ -11,7 +11,6 @@ use Rattle.console.proofs.texts.check_proposal.Lts as lts
 use Rattle.verdict.proofs.check.Reads as check-reads
 use Rattle.console.proofs.texts.refused.Reads as refused-reads
 use Rattle.model_table.proofs.clocks.Reads as clocks-reads
-use Rattle.zone_text.proofs.reading.read_proposal.Reads as read-proposal-reads
 
 slice-aggregate-read-proposal : tie.Need-slice-aggregate-read-proposal
 slice-aggregate-read-proposal c = search needs

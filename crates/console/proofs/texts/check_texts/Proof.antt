@@ -11,7 +11,7 @@ use Rattle.console.proofs.texts.check_texts.Reads as reads
 use Rattle.console.proofs.texts.check_texts.Lts as lts
 use Rattle.console.proofs.texts.check_proposal.Reads as check-proposal-reads
 use Rattle.console.proofs.texts.refused.Reads as refused-reads
-use Rattle.model_text.proofs.reading.read_model.Reads as read-model-reads
+use Rattle.model_text.proofs.read_model.Reads as read-model-reads
 
 slice-aggregate-read-model : tie.Need-slice-aggregate-read-model
 slice-aggregate-read-model c = search needs

@@ -4,7 +4,7 @@ use Rattle.machine.proofs.judge.is_given.Statement.{statement}
 use Rattle.machine.proofs.judge.is_given.Tie as tie
 use Rattle.machine.proofs.judge.is_given.Reads as reads
 use Rattle.machine.proofs.judge.is_given.Lts as lts
-use Rattle.model_text.proofs.writing.is_model.Reads as is-model-reads
+use Rattle.model_text.proofs.is_model.Reads as is-model-reads
 
 -- src/judge.rt:123:5
 is-model-requires : tie.Need-is-model-requires

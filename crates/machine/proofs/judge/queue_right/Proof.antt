@@ -1,6 +1,5 @@
-use Prim.Native.Nat.{ℕ, suc, _+_, _-_, _≤_, _<_}
-use mathlib.Core.Path.{_≡_, refl, sym, _∙_, ap, ap₂}
-use borrow.Author.Tests.{lt-ltb, le-ltb, eq-eqb, ne-eqb}
+use Prim.Native.Nat.{_-_}
+use mathlib.Core.Path.{sym}
 use Rattle.machine.specs.ByCell.{jobRight}
 use Rattle.machine.proofs.AllCells.{Passed, passed-start, passed-more, passed-stop, passed-end}
 use borrow.Author.Needs.{needs}

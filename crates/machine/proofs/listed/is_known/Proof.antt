@@ -7,7 +7,7 @@ use Rattle.machine.proofs.listed.is_known.Tie as tie
 use Rattle.machine.proofs.listed.is_known.Reads as reads
 use Rattle.machine.proofs.listed.is_known.Lts as lts
 use Rattle.machine.proofs.judge.is_given.Reads as is-given-reads
-use Rattle.model_table.proofs.counts.tasks.Reads as tasks-reads
+use Rattle.model_table.proofs.tasks.Reads as tasks-reads
 
 -- src/listed.rt:111:9
 returns : tie.Need-returns

@@ -1,12 +1,11 @@
-use mathlib.Core.Path.{_≡_, refl, sym, _∙_, ap, ap₂}
-use Prim.Native.Nat.{ℕ, suc, _+_, _-_, _≤_, _<_}
-use mathlib.Core.Path.{_≡_, refl, sym, _∙_, ap}
-use lib.ListN.{length, getD}
+use mathlib.Core.Path.{_≡_, sym, _∙_, ap}
+use Prim.Native.Nat.{suc, _+_, _-_}
+use mathlib.Core.Path.{_≡_, sym, _∙_, ap}
 use Rattle.meaning.specs.Text.ModelTable.{decode}
-use Rattle.machine.specs.Stands.{jobOf, queueOf, noJob}
+use Rattle.machine.specs.Stands.{queueOf}
 use Rattle.machine.proofs.Searches.{Sought, sought-start, sought-more, first-met, first-no}
 use Rattle.machine.proofs.QueueLaws.{noneThere, queue-length, queue-at}
-use Rattle.meaning.specs.Machine.Tick.{isLate, late}
+use Rattle.meaning.specs.Machine.Tick.{isLate}
 use borrow.Author.Needs.{needs}
 use native.Mathlib.Omega.{arith}
 use Rattle.machine.proofs.queue.first_late.Statement.{statement}
@@ -16,14 +15,14 @@ use Rattle.machine.proofs.queue.first_late.Lts as lts
 use Rattle.machine.proofs.queue.is_late.Reads as is-late-reads
 
 abbrev Inv-loop : tie.InvT-loop
-Inv-loop table count jobs k₀ k = Sought (isLate (decode table)) noneThere (queueOf jobs count) k
+Inv-loop table count jobs k₀ k = Sought (isLate (decode table)) noneThere (queueOf jobs count) 0 k
 
 abbrev μ-loop : tie.MeasureT-loop
 μ-loop table count jobs k₀ k = count - k
 
 -- src/queue.rt:113:5
 loop-holds : tie.Need-loop-holds Inv-loop μ-loop
-loop-holds c = sought-start _ _ _
+loop-holds c = sought-start _ _ _ 0 (omega arith)
 
 -- src/queue.rt:114:27
 mul-is-late : tie.Need-mul-is-late Inv-loop μ-loop
@@ -70,7 +69,7 @@ loop-again c = let a = c .before .before .before .before .before .before .args i
     let q = queueOf (a .t2) (a .count) in
     let e = queue-length (a .t2) (a .count) (omega arith) in
     let at = ap (isLate (decode (a .model .now))) (queue-at (a .t2) (a .count) (l .k) (omega arith)) in
-    sought-more _ noneThere q (l .k) (l .inv) (omega arith) (at ∙ sym (c .before .is-late .ensures) ∙ c .if1 .left)
+    sought-more _ noneThere q 0 (l .k) (l .inv) (omega arith) (at ∙ sym (c .before .is-late .ensures) ∙ c .if1 .left)
 
 -- src/queue.rt:108:1
 returns-2 : tie.Need-returns-2 Inv-loop μ-loop

@@ -7,7 +7,7 @@ use Rattle.model_text.proofs.marks.mark.Statement.{statement}
 use Rattle.model_text.proofs.marks.mark.Tie as tie
 use Rattle.model_text.proofs.marks.mark.Reads as reads
 use Rattle.model_text.proofs.marks.mark.Lts as lts
-use Rattle.lines.proofs.places.byte_at.Reads as byte-at-reads
+use Rattle.lines.proofs.byte_at.Reads as byte-at-reads
 use Rattle.model_text.proofs.marks.mark_of.Reads as mark-of-reads
 
 byte-at-requires : tie.Need-byte-at-requires

@@ -11,7 +11,7 @@ use Rattle.model_text.proofs.reading.read_model.Statement.{statement}
 use Rattle.model_text.proofs.reading.read_model.Tie as tie
 use Rattle.model_text.proofs.reading.read_model.Reads as reads
 use Rattle.model_text.proofs.reading.read_model.Lts as lts
-use Rattle.lines.proofs.stops.first_stop.Reads as first-stop-reads
+use Rattle.lines.proofs.first_stop.Reads as first-stop-reads
 use Rattle.model_text.proofs.reading.clear.Reads as clear-reads
 use Rattle.model_text.proofs.reading.read_records.Reads as read-records-reads
 

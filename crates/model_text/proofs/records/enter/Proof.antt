@@ -4,7 +4,7 @@ use borrow.Author.Needs.{needs}
 use mathlib.Core.Path.{refl, ap}
 use native.Mathlib.Numerals.{add-one}
 use Rattle.model_text.specs.Numbered.{markNo}
-use Rattle.model_text.specs.declared.records.Step.the-variants.{Next}
+use Rattle.model_text.specs.declared.records.Taken.the-variants.{Next}
 use Rattle.model_text.proofs.Laws.Taking.{entered-wrong, entered-low, entered-in}
 use Rattle.model_text.proofs.records.enter.Statement.{statement}
 use Rattle.model_text.proofs.records.enter.Tie as tie

@@ -19,7 +19,7 @@ use Rattle.model_text.proofs.records.take.Statement.{statement}
 use Rattle.model_text.proofs.records.take.Tie as tie
 use Rattle.model_text.proofs.records.take.Reads as reads
 use Rattle.model_text.proofs.records.take.Lts as lts
-use Rattle.lines.proofs.fields.read_line.Reads as read-line-reads
+use Rattle.lines.proofs.read_line.Reads as read-line-reads
 use Rattle.model_text.proofs.marks.mark.Reads as mark-reads
 use Rattle.model_text.proofs.records.enter.Reads as enter-reads
 use Rattle.model_text.proofs.rules.due.Reads as due-reads

@@ -15,7 +15,7 @@ use Rattle.model_text.proofs.writing.write_table.Statement.{statement}
 use Rattle.model_text.proofs.writing.write_table.Tie as tie
 use Rattle.model_text.proofs.writing.write_table.Reads as reads
 use Rattle.model_text.proofs.writing.write_table.Lts as lts
-use Rattle.model_text.proofs.slots.write_slot.Reads as write-slot-reads
+use Rattle.model_text.proofs.record_text.write_slot.Reads as write-slot-reads
 
 abbrev Inv-loop : tie.InvT-loop
 Inv-loop t buf₀ j₀ at₀ buf j at = (j ≤ size) × (length buf ≡ length buf₀) × Put buf₀ 0 (linesTo format t j) buf at

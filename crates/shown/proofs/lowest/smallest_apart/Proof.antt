@@ -8,11 +8,11 @@ use native.Mathlib.Omega.{arith}
 use lib.IntN.{negℤ}
 use Rattle.meaning.specs.Text.ModelTable.{decode}
 use Rattle.meaning.specs.Text.RightModel.{RightModel}
-use Rattle.meaning.proofs.Numbers.{shift}
-use Rattle.meaning.proofs.Exact.Bounds.{bound}
+use Rattle.meaning.specs.Inner.Words.{shift}
+use Rattle.meaning.specs.Inner.Bounds.{bound}
 use Rattle.bounds.specs.Matrix.{ent, Size}
 use Rattle.bounds.specs.Images.{var}
-use Rattle.step_bounds.specs.Narrowed.{Narrows}
+use Rattle.zone_bounds.specs.Narrowed.{Narrows}
 use Rattle.shown.proofs.SumLaws.{first-fits, both-fits, both-back, both-small}
 use Rattle.shown.proofs.StateLaws.{plan-few, plan-into, plan-size}
 use Rattle.shown.proofs.LowestLaws.{apart-some, lowest-apart, apart-shown}

@@ -4,9 +4,9 @@ use mathlib.Core.Path.{_≡_, ap}
 use Prim.Native.Nat.{suc, _+_, _-_, _<_}
 use native.Mathlib.Omega.{arith}
 use borrow.Author.Needs.{needs}
-use Rattle.meaning.proofs.Exact.Loops.{sumAhead}
+use Rattle.meaning.specs.Inner.Slots.{sumAhead}
 use Rattle.bounds.specs.Images.{var}
-use Rattle.step_bounds.proofs.NumberLaws.{ahead-below}
+use Rattle.zone_bounds.proofs.LoopLaws.{ahead-below}
 use Rattle.shown.proofs.state.job_at.Statement.{statement}
 use Rattle.shown.proofs.state.job_at.Tie as tie
 

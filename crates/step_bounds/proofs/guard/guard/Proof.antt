@@ -1,21 +1,20 @@
--- `matrix::guard::guard` meets its contract.
+-- `step_bounds::guard::guard` meets its contract.
 -- Assumes nothing.
-use mathlib.Core.Path.{_≡_, sym, _∙_, ap, subst}
+use mathlib.Core.Path.{_≡_, sym, subst}
 use mathlib.Core.Bool.{true}
 use mathlib.Core.Logic.{⊎-elim}
-use Prim.Native.Nat.{ℕ, _+_, _-_, _/_, _%_, _≤_}
+use Prim.Native.Nat.{_+_, _-_, _/_, _%_, _≤_}
 use native.Mathlib.Omega.{arith}
-use borrow.Author.Needs.{needs}
 use borrow.Author.Tests.{lt-ltb, le-ltb}
 use lib.Dec.{ltb}
-use lib.IntN.{ℤ}
 use Rattle.meaning.specs.Text.ModelTable.{lowered}
 use Rattle.model_table.specs.Parts.{boundIn}
+use Rattle.model_table.proofs.PartLaws.{bound-small}
 use Rattle.bounds.specs.Matrix.{Size}
 use Rattle.bounds.specs.declared.tightening.Tight.{Tight}
-use Rattle.step_bounds.specs.Narrowed.{boundSize, Narrows}
-use Rattle.step_bounds.proofs.NumberLaws.{read}
-use Rattle.step_bounds.proofs.RangeLaws.{bound-right, bound-most}
+use Rattle.zone_bounds.specs.Narrowed.{boundSize, Narrows}
+use Rattle.zone_bounds.proofs.NumberLaws.{read}
+use Rattle.step_bounds.proofs.RangeLaws.{bound-right}
 use Rattle.step_bounds.proofs.TableLaws.{guardTo, guard-first, guard-next, guard-same}
 use Rattle.step_bounds.proofs.guard.guard.Statement.{statement}
 use Rattle.step_bounds.proofs.guard.guard.Tie as tie
@@ -59,7 +58,7 @@ signed-requires c κs =
     let l = c .before .before .before in
     let s = l .before .before in
     let e = c .before .bound .ensures in
-    (omega arith, omega (arith, e, bound-most (s .args .model .now) (s .pre .0) (s .args .edge) (l .loop .x) (omega arith) (omega arith) (omega arith) (omega (arith, e)) (there-is c)))
+    (omega arith, omega (arith, e, bound-small (s .args .model .now) (s .pre .0) (s .args .edge) (l .loop .x / 5) (l .loop .x % 5)))
 
 narrow-requires : tie.Need-narrow-requires Inv-loop μ-loop
 narrow-requires c κs =

@@ -1,19 +1,17 @@
--- `matrix::limits::limits` meets its contract.
+-- `step_bounds::limits::limits` meets its contract.
 -- Assumes nothing.
 use mathlib.Core.Path.{_≡_, sym, _∙_, ap, subst}
 use mathlib.Core.Bool.{true}
 use mathlib.Core.Logic.{⊎-elim}
-use Prim.Native.Nat.{ℕ, _+_, _-_, _≤_}
+use Prim.Native.Nat.{_+_, _-_, _≤_}
 use native.Mathlib.Omega.{arith}
-use borrow.Author.Needs.{needs}
 use borrow.Author.Tests.{lt-ltb, le-ltb}
 use lib.Dec.{ltb}
-use Rattle.meaning.proofs.Exact.StepBounds.{limitBounds}
+use Rattle.meaning.specs.Inner.StepBounds.{limitBounds}
 use Rattle.model_table.specs.Parts.{limitIn}
 use Rattle.bounds.specs.declared.tightening.Tight.{Tight}
-use Rattle.bounds.proofs.Signed.{rd}
-use Rattle.step_bounds.specs.Narrowed.{Narrows}
-use Rattle.step_bounds.proofs.NumberLaws.{read, sub-small}
+use Rattle.zone_bounds.specs.Narrowed.{Narrows}
+use Rattle.zone_bounds.proofs.NumberLaws.{read, sub-small}
 use Rattle.step_bounds.proofs.RangeLaws.{limit-small}
 use Rattle.step_bounds.proofs.TableLaws.{limitsTo, limits-first, limits-next, limits-same, limits-all}
 use Rattle.step_bounds.proofs.limits.limits.Statement.{statement}

@@ -1,72 +1,68 @@
--- `zones::plan::laid` meets its contract.
+-- `step_reach::plan::laid` meets its contract.
 -- Assumes nothing.
-use mathlib.Core.Path.{_≡_, refl, _∙_, ap}
-use Prim.Native.Nat.{ℕ, suc, _+_, _*_, _≤_}
+use mathlib.Core.Path.{_≡_, _∙_}
+use Prim.Native.Nat.{_≤_}
 use native.Mathlib.Omega.{arith}
+use lib.ListN.{length}
+use Rattle.meaning.specs.Text.ModelTable.{decode}
+use Rattle.model_table.proofs.PartLaws.{clocks-is}
+use Rattle.bounds.proofs.Signed.{back}
+use Rattle.step_reach.proofs.VariableLaws.{adds-same}
+use Rattle.step_reach.proofs.PlanLaws.{planned}
 use borrow.Author.Needs.{needs}
-use Rattle.bounds.proofs.Signed.{rd, back}
-use Rattle.step_bounds.proofs.RangeLaws.{clocks-small}
 use Rattle.step_reach.proofs.plan.laid.Statement.{statement}
 use Rattle.step_reach.proofs.plan.laid.Tie as tie
 
 clocks-requires : tie.Need-clocks-requires
-clocks-requires c κs = tt
+clocks-requires c κs = search needs
 
-cast-n : tie.Need-cast-n
-cast-n c = search needs
+cast-clocks : tie.Need-cast-clocks
+cast-clocks c = search needs
+
+variables-requires : tie.Need-variables-requires
+variables-requires c κs = search needs
 
 -- how many clocks
+clocks : (c : tie.After-clocks) → c .clocks .result ≡ decode (c .before .before .args .model .now) .clocks
+clocks c = let s = c .before .before in c .clocks .ensures ∙ clocks-is (s .args .model .now) (s .pre .0)
+
 few : (c : tie.After-clocks) → c .clocks .result ≤ 4
-few c = let s = c .before .before in omega (arith, c .clocks .ensures, clocks-small (s .args .model .now) (s .pre .0))
+few c = let s = c .before .before in omega (arith, clocks c, s .pre .0 .right .clocks)
 
-add-variables : tie.Need-add-variables
-add-variables c = let n = few c in omega arith
-
-mul-variables : tie.Need-mul-variables
-mul-variables c = omega (arith, c .before .before .pre .1 .0)
-
-add-variables-2 : tie.Need-add-variables-2
-add-variables-2 c = let n = few c in omega (arith, c .before .before .pre .1 .0)
+six : (c : tie.After-tasks) → length (c .before .before .before .args .slots .tasks) ≡ 6
+six c = search needs
 
 all-from-requires : tie.Need-all-from-requires
 all-from-requires c κs =
-    let n = few c in
-    let p = c .before .before .pre .1 in
-    (n, p .1, p .2, omega (arith, p .0))
+    let d = c .before .before in
+    (clocks d, few d, d .before .before .pre .1 .few, omega (arith, clocks d, c .variables .ensures .0))
 
 all-added-requires : tie.Need-all-added-requires
-all-added-requires c κs =
-    let d = c .before .before .before in
-    let n = few d in
-    (n, omega (arith, d .before .before .pre .1 .0))
+all-added-requires c κs = (few (c .before .before .before), c .before .variables .ensures .1)
+
+cast-t14 : tie.Need-cast-t14
+cast-t14 c = search needs
 
 returns : tie.Need-returns
-returns c =
+returns c h st w =
     let d = c .before .before .before .before in
     let s = d .before .before in
-    let t : rd (s .args .motion .time) ≡ s .args .motion .time = search needs in
-    let u = back (s .args .motion .sum) (record { sfits = c .before .struct-told2 .given .1 .1 .1 .1 .0 .1 }) in
-    let a = rw (d .clocks .ensures) at (c .before .before .before .all-from .ensures) in
-    let b = rw (d .clocks .ensures, t, u) at (c .all-added .ensures) in
-    record {
-      location = refl;
-      tasks = refl;
-      count = refl;
-      many = omega (arith, d .clocks .ensures);
-      from = λ i h. a .0 i (omega (arith, d .clocks .ensures));
-      off = λ i h. b .0 i (omega (arith, d .clocks .ensures));
-      beyond = λ i h. (a .1 i (omega (arith, d .clocks .ensures)), b .1 i (omega (arith, d .clocks .ensures)));
-    }
+    let t = s .args .model .now in
+    let v = c .before .before .variables .ensures .0 in
+    planned t h st (s .args .location) (s .args .edge) (s .args .slots) (s .args .time) (s .args .sum) w (s .pre .1) (six (c .before .before .before))
+    (c .before .before .variables .result) (c .before .all-from .result) (c .all-added .result) v
+    (c .before .all-from .ensures .0) (c .before .all-from .ensures .1)
+    (λ i e. adds-same (clocks d) (back (s .args .time) (s .fits .time)) (back (s .args .sum) (s .fits .sum)) (c .all-added .ensures .0 i e))
+    (c .all-added .ensures .1)
 
 pub laid-spec : {M : Type 1} → statement M
 laid-spec =
     tie.close
     (tie.spec
     clocks-requires
-    cast-n
-    add-variables
-    mul-variables
-    add-variables-2
+    cast-clocks
+    variables-requires
     all-from-requires
     all-added-requires
+    cast-t14
     returns)

@@ -1,64 +1,59 @@
--- `zones::reply::stepped` meets its contract.
+-- `step_reach::reply::stepped` meets its contract.
 -- Assumes nothing.
-use mathlib.Core.Path.{_≡_, refl}
-use Prim.Native.Nat.{ℕ, _≤_}
+use mathlib.Core.Path.{refl}
+use Prim.Native.Nat.{_≤_}
 use native.Mathlib.Omega.{arith}
-use Rattle.meaning.specs.Model.{Model}
+use borrow.Author.Needs.{needs}
 use Rattle.meaning.specs.Zones.Variables.{variables}
-use Rattle.meaning.specs.Zones.Zone as Z
-use Rattle.meaning.specs.Zones.Steps.{Step}
-use Rattle.meaning.specs.Zones.Reached.{homeOfZone}
 use Rattle.meaning.specs.Text.ModelTable.{decode}
 use Rattle.meaning.specs.Text.RightModel.{RightModel}
-use Rattle.meaning.proofs.Exact.Valuations.{zoneBounds, RangedZone}
-use Rattle.meaning.proofs.Exact.StepBounds.{stepBounds, RangedModel}
-use Rattle.meaning.proofs.Exact.Reached.{sourceBounds}
-use Rattle.zone.specs.Stands.{orderOf, zoneOf}
-use Rattle.step_bounds.specs.Narrowed.{Narrowed}
-use Rattle.step_bounds.specs.Moves.{stepOf}
-use Rattle.step_bounds.proofs.NarrowLaws.{narrowed-then}
-use Rattle.step_bounds.proofs.RangeLaws.{right-ranged, lent-ranged}
-use Rattle.bounds.specs.Images.{Maps}
-use Rattle.step_reach.specs.Plans.{homeOf}
-use Rattle.step_reach.specs.Replies.{replyOf}
+use Rattle.meaning.specs.Inner.Slots.{zoneBounds}
+use Rattle.meaning.specs.Inner.StepBounds.{stepBounds, RangedModel}
+use Rattle.meaning.specs.Inner.Sources.{sourceBounds}
+use Rattle.home.specs.Stands.{orderOf, homeOf}
+use Rattle.zone_list.specs.Steps.{stepOf}
+use Rattle.zone_bounds.specs.Entries.{zoneWith}
+use Rattle.zone_bounds.specs.Narrowed.{Narrowed}
+use Rattle.zone_bounds.proofs.NarrowLaws.{narrowed-then}
+use Rattle.step_bounds.proofs.RangeLaws.{right-ranged}
 use Rattle.step_reach.proofs.ReplyLaws.{variables-few, head-small, reply-empty, map-of, maps-of, reply-some, zeros-entry}
 use Rattle.step_reach.proofs.reply.stepped.Statement.{statement}
 use Rattle.step_reach.proofs.reply.stepped.Tie as tie
 
 zone-matrix-requires : tie.Need-zone-matrix-requires
-zone-matrix-requires c κs = let s = c .before in (s .pre .0, s .pre .1 .0)
+zone-matrix-requires c κs = search needs
 
 step-matrix-requires : tie.Need-step-matrix-requires
-step-matrix-requires c κs = let s = c .before .before in (s .pre .0, (s .pre .1 .0, (s .pre .1 .1, c .zone-matrix .ensures .ready)))
+step-matrix-requires c κs = search needs
 
 plan-of-requires : tie.Need-plan-of-requires
-plan-of-requires c κs = let s = c .before .before .before in (s .pre .0, (s .pre .1 .0, s .pre .1 .1))
+plan-of-requires c κs = search needs
 
 -- the model, the zone and the step, and what is known of them
 module _ (c : tie.After-plan-of) where
   right : RightModel (decode (c .before .before .before .before .args .model .now))
-  right = let s = c .before .before .before .before in s .pre .0 .right
+  right = c .before .before .before .before .pre .0 .right
 
   ranged : RangedModel (decode (c .before .before .before .before .args .model .now))
   ranged = let s = c .before .before .before .before in right-ranged (decode (s .args .model .now)) right
 
-  zone-ranged : let s = c .before .before .before .before in RangedZone (decode (s .args .model .now)) (zoneOf (s .args .zone))
-  zone-ranged = let s = c .before .before .before .before in lent-ranged (decode (s .args .model .now)) (s .args .zone) (s .pre .1 .0)
+  few : let s = c .before .before .before .before in variables (decode (s .args .model .now)) (orderOf (s .args .home)) ≤ 17
+  few =
+      let s = c .before .before .before .before in
+      variables-few (decode (s .args .model .now)) right (s .args .home .count) (s .args .home .tasks) (s .pre .1 .0 .few)
 
-  few : let s = c .before .before .before .before in variables (decode (s .args .model .now)) (orderOf (s .args .zone)) ≤ 17
-  few = let s = c .before .before .before .before in variables-few (decode (s .args .model .now)) right (s .args .zone .count) (s .args .zone .tasks) (s .pre .1 .0 .few)
-
-  narrowed : let s = c .before .before .before .before in Narrowed (sourceBounds (decode (s .args .model .now)) (zoneOf (s .args .zone)) (stepOf (s .args .step))) (c .before .step-matrix .result)
+  narrowed : let s = c .before .before .before .before in
+      Narrowed (sourceBounds (decode (s .args .model .now)) (zoneWith (s .args .home) (s .args .bounds)) (stepOf (s .args .step))) (c .before .step-matrix .result)
   narrowed =
       let s = c .before .before .before .before in
       let n = decode (s .args .model .now) in
-      narrowed-then (zoneBounds n (zoneOf (s .args .zone))) (stepBounds n (homeOfZone (zoneOf (s .args .zone))) (stepOf (s .args .step)))
+      narrowed-then (zoneBounds n (zoneWith (s .args .home) (s .args .bounds))) (stepBounds n (homeOf (s .args .home)) (stepOf (s .args .step)))
       (c .before .before .zone-matrix .result) (c .before .step-matrix .result) (c .before .before .zone-matrix .ensures) (c .before .step-matrix .ensures)
 
-  after : variables (decode (c .before .before .before .before .args .model .now)) (homeOf (c .plan-of .result) .order) ≤ 17
+  after : variables (decode (c .before .before .before .before .args .model .now)) (orderOf (c .plan-of .result .home)) ≤ 17
   after =
       let s = c .before .before .before .before in
-      variables-few (decode (s .args .model .now)) right (c .plan-of .result .count) (c .plan-of .result .tasks) (c .plan-of .ensures .few)
+      variables-few (decode (s .args .model .now)) right (c .plan-of .result .home .count) (c .plan-of .result .home .tasks) (c .plan-of .ensures .few)
 
 returns : tie.Need-returns
 returns c =
@@ -67,8 +62,8 @@ returns c =
     let p = d .plan-of in
     record {
       taken = refl;
-      reply = reply-empty (decode (s .args .model .now)) (zoneOf (s .args .zone)) (stepOf (s .args .step)) (ranged d) (zone-ranged d) (few d) (d .before .step-matrix .result) (narrowed d)
-          (p .result) (p .ensures) (after d) (c .if1 .taken) _ (p .ensures .home) refl zeros-entry;
+      reply = reply-empty (decode (s .args .model .now)) (zoneWith (s .args .home) (s .args .bounds)) (stepOf (s .args .step)) (ranged d) (s .pre .1 .1 .0) (few d)
+          (d .before .step-matrix .result) (narrowed d) (p .result) (p .ensures) (after d) (c .if1 .taken) _ (p .ensures .home) refl zeros-entry;
       few = p .ensures .few;
       unused = p .ensures .unused;
     }
@@ -82,8 +77,9 @@ remap-requires c κs =
       omega (arith, after d, p .ensures .many),
       (
         narrowed d .ready e .entries,
-        maps-of (decode (s .args .model .now)) (zoneOf (s .args .zone)) (stepOf (s .args .step)) (ranged d) (zone-ranged d) (few d) (d .before .step-matrix .result) (narrowed d)
-            (p .result) (p .ensures) (after d) e (head-small (decode (s .args .model .now)) (right d) (orderOf (s .args .zone))),
+        maps-of (decode (s .args .model .now)) (zoneWith (s .args .home) (s .args .bounds)) (stepOf (s .args .step)) (ranged d) (s .pre .1 .1 .0) (few d)
+            (d .before .step-matrix .result) (narrowed d) (p .result) (p .ensures) (after d) e
+            (head-small (decode (s .args .model .now)) (right d) (orderOf (s .args .home))),
       ),
     )
 
@@ -93,12 +89,13 @@ returns-2 c =
     let s = d .before .before .before .before in
     let p = d .plan-of in
     let e = c .before .before .before .before .if1 .left in
-    let x = map-of (decode (s .args .model .now)) (zoneOf (s .args .zone)) (stepOf (s .args .step)) (ranged d) (zone-ranged d) (few d) (d .before .step-matrix .result) (narrowed d)
-    (p .result) (p .ensures) (after d) e in
+    let x = map-of (decode (s .args .model .now)) (zoneWith (s .args .home) (s .args .bounds)) (stepOf (s .args .step)) (ranged d) (s .pre .1 .1 .0) (few d)
+    (d .before .step-matrix .result) (narrowed d) (p .result) (p .ensures) (after d) e in
     record {
       taken = refl;
-      reply = reply-some (decode (s .args .model .now)) (zoneOf (s .args .zone)) (stepOf (s .args .step)) (ranged d) (zone-ranged d) (few d) (d .before .step-matrix .result) (narrowed d)
-          (p .result) (p .ensures) (after d) e (c .remap .result) (c .remap .ensures 17 (narrowed d .ready e .closed) x) _ (p .ensures .home) refl (λ i j. refl);
+      reply = reply-some (decode (s .args .model .now)) (zoneWith (s .args .home) (s .args .bounds)) (stepOf (s .args .step)) (ranged d) (s .pre .1 .1 .0) (few d)
+          (d .before .step-matrix .result) (narrowed d) (p .result) (p .ensures) (after d) e (c .remap .result)
+          (c .remap .ensures 17 (narrowed d .ready e .closed) x) _ (p .ensures .home) refl (λ i j. refl);
       few = p .ensures .few;
       unused = p .ensures .unused;
     }

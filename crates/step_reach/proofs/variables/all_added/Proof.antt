@@ -1,7 +1,7 @@
--- `zones::variables::all_added` meets its contract.
+-- `step_reach::variables::all_added` meets its contract.
 -- Assumes nothing.
-use mathlib.Core.Path.{_≡_, refl, _∙_}
-use Prim.Native.Nat.{ℕ, _+_, _-_, _<_, _≤_}
+use mathlib.Core.Path.{_≡_, refl, sym, _∙_, subst}
+use Prim.Native.Nat.{ℕ, _-_, _<_, _≤_}
 use native.Mathlib.Omega.{arith}
 use borrow.Author.Needs.{needs}
 use lib.IntN.{pos}
@@ -10,13 +10,13 @@ use mir.Syntax.{w32}
 use mir.Val.{toZ}
 use Rattle.bounds.proofs.Signed.{rd, back}
 use Rattle.bounds.proofs.Store.{stored, beyond, zerosZ}
-use Rattle.step_reach.specs.Plans.{added}
+use Rattle.step_reach.specs.Plans.{Adds}
 use Rattle.step_reach.proofs.variables.all_added.Statement.{statement}
 use Rattle.step_reach.proofs.variables.all_added.Tie as tie
 
 abbrev Inv-loop : tie.InvT-loop
 Inv-loop n clocks time sum r₀ i₀ r i =
-    (i ≤ n) × (length r ≡ 17) × ((q : ℕ) → q < i → getD r q (pos 0) ≡ added clocks (toZ w32 time) (toZ w32 sum) q) × ((q : ℕ) → i ≤ q → getD r q (pos 0) ≡ getD (replicate 17 (pos 0)) q (pos 0))
+    (i ≤ n) × (length r ≡ 17) × ((q : ℕ) → q < i → Adds clocks (toZ w32 time) (toZ w32 sum) q (getD r q (pos 0))) × ((q : ℕ) → i ≤ q → getD r q (pos 0) ≡ getD (replicate 17 (pos 0)) q (pos 0))
 
 abbrev μ-loop : tie.MeasureT-loop
 μ-loop n clocks time sum r₀ i₀ r i = n - i
@@ -46,7 +46,7 @@ loop-again c =
     let a = c .added-to in (
       omega arith,
       search needs,
-      stored (λ q z. z ≡ added (s .clocks) (rd (s .time)) (rd (s .sum)) q) (l .r) (l .i) (rd (a .result)) (omega arith) (l .inv .2) (back (a .result) (record { sfits = a .ok }) ∙ a .ensures),
+      stored (λ q z. Adds (s .clocks) (rd (s .time)) (rd (s .sum)) q z) (l .r) (l .i) (rd (a .result)) (omega arith) (l .inv .2) (subst (Adds (s .clocks) (rd (s .time)) (rd (s .sum)) (l .i)) (sym (back (a .result) (record { sfits = a .ok }))) (a .ensures)),
       beyond (l .r) (replicate 17 (pos 0)) (l .i) (rd (a .result)) (l .inv .3),
     )
 

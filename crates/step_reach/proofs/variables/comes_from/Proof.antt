@@ -1,41 +1,50 @@
--- `zones::variables::comes_from` meets its contract.
+-- `step_reach::variables::comes_from` meets its contract.
 -- Assumes nothing.
-use mathlib.Core.Path.{_≡_, sym, _∙_}
-use Prim.Native.Nat.{_≤_, _<_}
-use native.Mathlib.Omega.{arith}
-use Rattle.step_reach.proofs.VariableLaws.{comes-queue, comes-reset, comes-kept}
+use mathlib.Core.Path.{sym, _∙_}
+use Rattle.step_reach.proofs.VariableLaws.{comes-slot, comes-reset, comes-kept}
+use borrow.Author.Needs.{needs}
 use Rattle.step_reach.proofs.variables.comes_from.Statement.{statement}
 use Rattle.step_reach.proofs.variables.comes_from.Tie as tie
 
-queue-from-requires : tie.Need-queue-from-requires
-queue-from-requires c κs = omega arith
+add-slot-variable : tie.Need-add-slot-variable
+add-slot-variable c = search needs
+
+sub-slot-variable : tie.Need-sub-slot-variable
+sub-slot-variable c = search needs
+
+slot-variable-requires : tie.Need-slot-variable-requires
+slot-variable-requires c κs = search needs
 
 returns : tie.Need-returns
 returns c =
-    let s = c .before .before .before .args in
-    c .queue-from .ensures ∙ sym (comes-queue (s .model .now) (s .clocks) (s .edge) (s .gone) (s .at) (s .i) (c .before .if1 .taken))
+    let s = c .before .before .before in
+    c .slot-variable .ensures ∙ comes-slot (s .args .model .now) (s .args .clocks) (s .args .edge) (s .args .slots) (s .args .i) (s .pre .0) (c .before .if1 .taken)
 
 cast-reset : tie.Need-cast-reset
-cast-reset c = omega arith
+cast-reset c = search needs
 
 reset-requires : tie.Need-reset-requires
-reset-requires c κs = tt
+reset-requires c κs = search needs
 
 returns-2 : tie.Need-returns-2
 returns-2 c =
-    let s = c .before .before .before .before .args in
-    sym (comes-reset (s .model .now) (s .clocks) (s .edge) (s .gone) (s .at) (s .i) (c .before .before .if1 .left) (sym (c .before .reset .ensures) ∙ c .if2 .taken))
+    let s = c .before .before .before .before in
+    comes-reset (s .args .model .now) (s .args .clocks) (s .args .edge) (s .args .slots) (s .args .i) (s .pre .0) (c .before .before .if1 .left) (s .pre .1)
+    (sym (c .before .reset .ensures) ∙ c .if2 .taken)
 
 returns-3 : tie.Need-returns-3
 returns-3 c =
-    let s = c .before .before .before .before .args in
-    sym (comes-kept (s .model .now) (s .clocks) (s .edge) (s .gone) (s .at) (s .i) (c .before .before .if1 .left) (sym (c .before .reset .ensures) ∙ c .if2 .left))
+    let s = c .before .before .before .before in
+    comes-kept (s .args .model .now) (s .args .clocks) (s .args .edge) (s .args .slots) (s .args .i) (s .pre .0) (c .before .before .if1 .left) (s .pre .1)
+    (sym (c .before .reset .ensures) ∙ c .if2 .left)
 
 pub comes-from-spec : {M : Type 1} → statement M
 comes-from-spec =
     tie.close
     (tie.spec
-    queue-from-requires
+    add-slot-variable
+    sub-slot-variable
+    slot-variable-requires
     returns
     cast-reset
     reset-requires

@@ -1,13 +1,13 @@
 -- `verdict::answering::check_given` meets its contract: before each zone all obligations so far are tried, and hold.
 -- Assumes nothing.
 use mathlib.Core.Path.{sym, subst}
-use Prim.Native.Nat.{ℕ, _+_, _-_, _*_, _≤_}
+use Prim.Native.Nat.{_+_, _-_, _*_, _≤_}
 use native.Mathlib.Omega.{arith}
 use borrow.Author.Needs.{needs}
 use borrow.Author.Tests.{not-true, not-false}
 use Rattle.meaning.specs.Text.ModelTable.{decode}
 use Rattle.meaning.specs.Text.ProposalTable as table
-use Rattle.step_reach.proofs.TestLaws.{never}
+use Rattle.meaning.proofs.Tests.{never}
 use Rattle.verdict.specs.AnsweredBy.{AnsweredBy}
 use Rattle.verdict.proofs.TriedLaws.{TriedTo, tried-first, answered-start, answered-zone, zone-tried, answered-all}
 use Rattle.verdict.proofs.answering.check_given.Statement.{statement}

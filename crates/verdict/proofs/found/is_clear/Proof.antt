@@ -2,7 +2,7 @@
 -- Assumes nothing.
 use mathlib.Core.Path.{sym, _∙_, ap}
 use borrow.Author.Needs.{needs}
-use Rattle.step_reach.proofs.TestLaws.{is-so, not-so}
+use Rattle.home.proofs.Walks.{is-so, is-not}
 use Rattle.verdict.specs.Answers.{faultOf}
 use Rattle.verdict.proofs.FoundLaws.{none-some}
 use Rattle.verdict.proofs.found.is_clear.Statement.{statement}
@@ -30,19 +30,19 @@ returns : tie.Need-returns
 returns c = is-so (ap faultOf (c .enum-told .given .1))
 
 returns-2 : tie.Need-returns-2
-returns-2 c = not-so (λ h. none-some (sym h ∙ ap faultOf (c .enum-told2 .given .1)))
+returns-2 c = is-not (λ h. none-some (sym h ∙ ap faultOf (c .enum-told2 .given .1)))
 
 returns-3 : tie.Need-returns-3
-returns-3 c = not-so (λ h. none-some (sym h ∙ ap faultOf (c .enum-told3 .given .1)))
+returns-3 c = is-not (λ h. none-some (sym h ∙ ap faultOf (c .enum-told3 .given .1)))
 
 returns-4 : tie.Need-returns-4
-returns-4 c = not-so (λ h. none-some (sym h ∙ ap faultOf (c .enum-told4 .given .1)))
+returns-4 c = is-not (λ h. none-some (sym h ∙ ap faultOf (c .enum-told4 .given .1)))
 
 returns-5 : tie.Need-returns-5
-returns-5 c = not-so (λ h. none-some (sym h ∙ ap faultOf (c .enum-told5 .given .1)))
+returns-5 c = is-not (λ h. none-some (sym h ∙ ap faultOf (c .enum-told5 .given .1)))
 
 returns-6 : tie.Need-returns-6
-returns-6 c = not-so (λ h. none-some (sym h ∙ ap faultOf (c .enum-told6 .given .1)))
+returns-6 c = is-not (λ h. none-some (sym h ∙ ap faultOf (c .enum-told6 .given .1)))
 
 pub is-clear-spec : {M : Type 1} → statement M
 is-clear-spec =

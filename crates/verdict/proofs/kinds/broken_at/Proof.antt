@@ -1,9 +1,8 @@
 -- `verdict::kinds::broken_at` meets its contract.
 -- Assumes nothing.
-use mathlib.Core.Path.{_≡_, refl, subst}
+use mathlib.Core.Path.{refl}
 use Prim.Native.Nat.{_+_, _*_, _≤_, _<_}
 use native.Mathlib.Omega.{arith}
-use borrow.Author.Needs.{needs}
 use Rattle.meaning.specs.Text.ModelTable.{decode}
 use Rattle.bounds.specs.Claims.{cell}
 use Rattle.bounds.specs.Inner.{Claimed}

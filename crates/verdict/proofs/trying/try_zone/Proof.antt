@@ -7,19 +7,20 @@ use borrow.Author.Needs.{needs}
 use Rattle.meaning.specs.Text.ModelTable.{decode}
 use Rattle.meaning.specs.Text.ProposalTable as table
 use Rattle.zone_table.proofs.SoundGiven.{zones-few}
-use Rattle.zone_table.proofs.ZoneParts.{given-small, read-lendable}
+use Rattle.zone.proofs.LendableLaws.{lent-takable}
+use Rattle.zone_table.proofs.ZoneParts.{given-small, home-right, read-lendable}
 use Rattle.verdict.specs.declared.answer.Found.{Found}
 use Rattle.verdict.specs.Judged.{HoldBefore, ZoneTried}
-use Rattle.verdict.proofs.PlaceLaws.{claims-many, claims-most}
+use Rattle.verdict.proofs.PlaceLaws.{claims-many, claims-most, read-closed}
 use Rattle.verdict.proofs.TryLaws.{triedBy, tried-none, tried-on, tried-fails, tried-all}
 use Rattle.verdict.proofs.trying.try_zone.Statement.{statement}
 use Rattle.verdict.proofs.trying.try_zone.Tie as tie
 
 abbrev Inv-loop : tie.InvT-loop
-Inv-loop model zones n before zone closed many x₀ number₀ x number = (x ≤ many) × (number ≡ before + x) × HoldBefore (decode model) (table.decode zones) n (table.zoneIn zones (n - 1)) (x + 1)
+Inv-loop model zones n before home closed many x₀ number₀ x number = (x ≤ many) × (number ≡ before + x) × HoldBefore (decode model) (table.decode zones) n (table.zoneIn zones (n - 1)) (x + 1)
 
 abbrev μ-loop : tie.MeasureT-loop
-μ-loop model zones n before zone closed many x₀ number₀ x number = many - x
+μ-loop model zones n before home closed many x₀ number₀ x number = many - x
 
 zone-at-requires : tie.Need-zone-at-requires Inv-loop μ-loop
 zone-at-requires c κs =
@@ -30,20 +31,27 @@ zone-at-requires c κs =
 
 zone-matrix-requires : tie.Need-zone-matrix-requires Inv-loop μ-loop
 zone-matrix-requires c κs =
-    let s = c .before .before .before in
+    let y = c .before .before .zone-at in
+    let s = c .before .before .before .before .before in
     let a = s .args in
     let p = s .pre .0 in
-    (p .0, read-lendable (decode (a .model .now)) (p .0 .right) (a .zones .now) (p .1) (a .n) (p .2) (p .3) (c .zone-at .result) (c .zone-at .ensures))
+    let z = y .result in (
+      p .0,
+      (
+        home-right (decode (a .model .now)) (p .0 .right) (a .zones .now) (p .1) (a .n) (p .2) (p .3) (z .home) (y .ensures .home) .few,
+        lent-takable (decode (a .model .now)) z (read-lendable (decode (a .model .now)) (p .0 .right) (a .zones .now) (p .1) (a .n) (p .2) (p .3) z (y .ensures)),
+      ),
+    )
 
 claims-requires : tie.Need-claims-requires Inv-loop μ-loop
 claims-requires c κs =
-    let s = c .before .before .before .before in
+    let s = c .before .before .before .before .before .before in
     let p = s .pre .0 in
     (p .2, omega (arith, p .3, zones-few (s .args .zones .now)))
 
 loop-holds : tie.Need-loop-holds Inv-loop μ-loop
 loop-holds c =
-    let a = c .before .before .before .before .before .args in
+    let a = c .before .before .before .before .before .before .before .args in
     (omega arith, omega arith, tried-none (decode (a .model .now)) (table.decode (a .zones .now)) (a .n) (table.zoneIn (a .zones .now) (a .n - 1)))
 
 add-x : tie.Need-add-x Inv-loop μ-loop
@@ -53,7 +61,7 @@ add-number : tie.Need-add-number Inv-loop μ-loop
 add-number c =
     let l = c .before in
     let k = l .before in
-    let s = k .before .before .before .before .before in
+    let s = k .before .before .before .before .before .before .before in
     let a = s .args in
     let p = s .pre .0 in
     let r = p .0 .right in
@@ -64,10 +72,16 @@ try-place-requires : tie.Need-try-place-requires Inv-loop μ-loop
 try-place-requires c κs =
     let l = c .before in
     let k = l .before in
-    let s = k .before .before .before .before .before in
-    let p = s .pre .0 in (
+    let s = k .before .before .before .before .before .before .before in
+    let a = s .args in
+    let p = s .pre .0 in
+    let z = k .before .before .before .before .zone-at in
+    let m = k .before .zone-matrix in (
       (p .0, p .1, p .2, p .3),
-      (k .before .before .zone-at .ensures, (k .before .zone-matrix .ensures, (omega arith, omega (arith, c .loop-test .taken, k .claims .ensures)))),
+      (
+        read-closed (decode (a .model .now)) (p .0 .right) (a .zones .now) (p .1) (a .n) (p .2) (p .3) (z .result) (z .ensures) (m .result) (m .ensures),
+        (omega arith, omega (arith, c .loop-test .taken, k .claims .ensures)),
+      ),
     )
 
 is-clear-requires : tie.Need-is-clear-requires Inv-loop μ-loop
@@ -77,7 +91,7 @@ returns : tie.Need-returns Inv-loop μ-loop
 returns c =
     let l = c .before .before .before .before in
     let k = l .before in
-    let s = k .before .before .before .before .before in
+    let s = k .before .before .before .before .before .before .before in
     let a = s .args in
     let p = s .pre .0 in
     let r = p .0 .right in
@@ -94,7 +108,7 @@ loop-again : tie.Need-loop-again Inv-loop μ-loop
 loop-again c =
     let l = c .before .before .before .before in
     let k = l .before in
-    let s = k .before .before .before .before .before in
+    let s = k .before .before .before .before .before .before .before in
     let a = s .args in
     let i = c .before in
     let v = i .before .before .loop-test .taken in
@@ -107,7 +121,7 @@ returns-2 : tie.Need-returns-2 Inv-loop μ-loop
 returns-2 c =
     let l = c .before .before in
     let k = l .before in
-    let s = k .before .before .before .before .before in
+    let s = k .before .before .before .before .before .before .before in
     let a = s .args in
     let p = s .pre .0 in
     let r = p .0 .right in

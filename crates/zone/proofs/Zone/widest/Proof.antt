@@ -13,8 +13,8 @@ widest-given-requires c κs = given-table _ (c .before .is-model .ensures .yes (
 
 returns : tie.Need-returns
 returns c = record {
-  unusable = λ f. c .widest-given .ensures .unusable (λ w. f (record { given = c .before .before .is-model .ensures .yes (c .before .if1 .taken); cells = w }));
-  usable = λ u. c .widest-given .ensures .usable (u .cells);
+  unusable = λ f. c .widest-given .ensures .unusable (λ w. f (record { given = c .before .before .is-model .ensures .yes (c .before .if1 .taken); home = w }));
+  usable = λ u. c .widest-given .ensures .usable (u .home);
 }
 
 not-made-requires : tie.Need-not-made-requires

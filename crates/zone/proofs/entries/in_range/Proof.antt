@@ -5,8 +5,8 @@ use mir.Syntax.{w32}
 use mir.Val.{SFits}
 use mir.Facts.{sfits-lit}
 use Rattle.bounds.proofs.Signed.{signed, at, diff-at, diff-fits}
-use Rattle.zone.proofs.Walks.{is-so, is-not}
-use Rattle.zone.proofs.EntryLaws.{small-make}
+use Rattle.home.proofs.Walks.{is-so, is-not}
+use Rattle.zone.proofs.EntryLaws.{range-make}
 use Rattle.zone.proofs.entries.in_range.Statement.{statement}
 use Rattle.zone.proofs.entries.in_range.Tie as tie
 
@@ -29,7 +29,7 @@ returns-2 c = is-not (λ s. omega (signed, s .least, at (c .before .before .fits
 returns-3 : tie.Need-returns-3
 returns-3 c =
     let f = c .before .before .fits .c in
-    is-so (small-make _ (omega (signed, at f)) (omega (signed, at f, at (sub-if2 (c .before)), diff-at zero end)))
+    is-so (range-make _ (omega (signed, at f)) (omega (signed, at f, at (sub-if2 (c .before)), diff-at zero end)))
 
 pub in-range-spec : {M : Type 1} → statement M
 in-range-spec = tie.close (tie.spec returns sub-if2 returns-2 returns-3)

@@ -6,7 +6,7 @@ use lib.IntN.{pos}
 use lib.ListN.{getD}
 use Rattle.bounds.proofs.Signed.{rd}
 use Prim.Native.Nat.{_-_}
-use Rattle.zone.proofs.Walks.{is-so, is-not}
+use Rattle.home.proofs.Walks.{is-so, is-not}
 use Rattle.zone.proofs.EntryLaws.{Passed, passed-start, passed-more, passed-end}
 use borrow.Author.Needs.{needs}
 use native.Mathlib.Omega.{arith}

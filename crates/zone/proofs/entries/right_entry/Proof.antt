@@ -1,7 +1,7 @@
 -- `zone::entries::right_entry` meets its contract.
 -- Assumes nothing.
 use Rattle.bounds.proofs.Signed.{back}
-use Rattle.zone.proofs.Walks.{is-so, is-not}
+use Rattle.home.proofs.Walks.{is-so, is-not}
 use Rattle.zone.proofs.EntryLaws.{is-none, is-bound}
 use borrow.Author.Needs.{needs}
 use native.Mathlib.Omega.{arith}
@@ -26,9 +26,9 @@ in-range-requires c κs = search needs
 returns-5 : tie.Need-returns-5
 returns-5 c =
     let s = c .before .before .before .before .before in
-    let small = rw (back (s .args .c) (s .fits .c)) at (c .in-range .ensures) in (
-      λ e. record { bound = λ h. record { two = c .before .before .before .if2 .left; i = omega arith; j = omega arith; small = small .0 e } },
-      λ r. small .1 (r .bound (is-bound (s .args .c) (c .before .before .before .before .if1 .left)) .small),
+    let range = rw (back (s .args .c) (s .fits .c)) at (c .in-range .ensures) in (
+      λ e. record { bound = λ h. record { two = c .before .before .before .if2 .left; i = omega arith; j = omega arith; range = range .0 e } },
+      λ r. range .1 (r .bound (is-bound (s .args .c) (c .before .before .before .before .if1 .left)) .range),
     )
 
 pub right-entry-spec : {M : Type 1} → statement M

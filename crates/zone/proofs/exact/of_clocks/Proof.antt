@@ -5,7 +5,7 @@ use mathlib.Core.Path.{_≡_, sym, subst}
 use mathlib.Core.List.{List}
 use lib.IntN.{ℤ}
 use lib.ListN.{length, replicate}
-use Rattle.zone.specs.Stands.{noBound}
+use Rattle.zone_bounds.specs.Entries.{noBound}
 use Rattle.zone.proofs.ExactLaws.{ClocksUpto, clocks-start, clocks-more, clocks-end, empty-made}
 use borrow.Author.Needs.{needs}
 use native.Mathlib.Omega.{arith}

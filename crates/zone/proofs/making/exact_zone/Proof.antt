@@ -54,7 +54,7 @@ returns c =
     let first = c .before .before .of-clocks in
     let second = c .before .with-jobs in
     let e = count (c .before .before .before) in
-    subst (λ (ts : List ℕ). ExactZone m (stateOf m z) (record { location = z .location; tasks = ts; count = z .count; bounds = second .result })) (sym (c .tasks-of .ensures))
+    subst (λ (ts : List ℕ). ExactZone m (stateOf m z) (record { home = record { location = z .location; tasks = ts; count = z .count }; bounds = second .result })) (sym (c .tasks-of .ensures))
     (exact-made m (s .pre .0 .right) z (s .pre .1) (first .result) (second .result)
     (subst (λ (n : ℕ). ClocksWritten (z .clocks) n (first .result)) e (first .ensures))
     (subst (λ (n : ℕ). JobsWritten (first .result) n (z .jobs) (z .count) (second .result)) e (second .ensures)))

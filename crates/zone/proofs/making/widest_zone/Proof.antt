@@ -9,7 +9,7 @@ no-bounds-requires : tie.Need-no-bounds-requires
 no-bounds-requires c κs = search needs
 
 returns : tie.Need-returns
-returns c = λ m r. widest-made m _ r (c .no-bounds .ensures)
+returns c = λ m r. widest-made m _ _ r (c .no-bounds .ensures)
 
 pub widest-zone-spec : {M : Type 1} → statement M
 widest-zone-spec = tie.close (tie.spec no-bounds-requires returns)

@@ -1,4 +1,4 @@
--- `zonetable::counts::count_from` meets its contract.
+-- `zone_table::counts::count_from` meets its contract.
 -- Assumes nothing.
 use Prim.Native.Nat.{ℕ, _+_, _-_, _*_, _≤_}
 use mathlib.Core.Path.{_≡_, sym, ap, _∙_}

@@ -1,4 +1,4 @@
--- `zonetable::counts::one_if` meets its contract.
+-- `zone_table::counts::one_if` meets its contract.
 -- Assumes nothing.
 use lib.ListN.{getD}
 use Rattle.model_table.proofs.CountLaws.{one-there, one-not}

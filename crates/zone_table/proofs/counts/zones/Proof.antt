@@ -1,4 +1,4 @@
--- `zonetable::counts::zones` meets its contract.
+-- `zone_table::counts::zones` meets its contract.
 -- Assumes nothing.
 use native.Mathlib.Omega.{arith}
 use mathlib.Core.Path.{_∙_}

@@ -1,4 +1,4 @@
--- `zonetable::lengths::bound_length` meets its contract.
+-- `zone_table::lengths::bound_length` meets its contract.
 -- Assumes nothing.
 use Prim.Native.Nat.{_-_}
 use Rattle.meaning.specs.Text.ProposalText.{boundText}

@@ -1,4 +1,4 @@
--- `zonetable::lengths::claims_length` meets its contract.
+-- `zone_table::lengths::claims_length` meets its contract.
 -- Assumes nothing.
 use Rattle.meaning.specs.Text.Lines.{keptText}
 use Prim.Native.Nat.{ℕ, _+_, _-_, _*_, _≤_}

@@ -1,4 +1,4 @@
--- `zonetable::lengths::digits` meets its contract.
+-- `zone_table::lengths::digits` meets its contract.
 -- Assumes nothing.
 use native.Mathlib.Omega.{arith}
 use mathlib.Core.Path.{sym}

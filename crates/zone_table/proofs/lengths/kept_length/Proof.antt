@@ -1,4 +1,4 @@
--- `zonetable::lengths::kept_length` meets its contract.
+-- `zone_table::lengths::kept_length` meets its contract.
 -- Assumes nothing.
 use native.Mathlib.Omega.{arith}
 use Rattle.zone_table.proofs.LengthLaws.{kept-minus-length, kept-plain-length}

@@ -1,4 +1,4 @@
--- `zonetable::lengths::task_length` meets its contract.
+-- `zone_table::lengths::task_length` meets its contract.
 -- Assumes nothing.
 use Prim.Native.Nat.{_-_}
 use Rattle.zone_table.specs.Kept.{fieldText}

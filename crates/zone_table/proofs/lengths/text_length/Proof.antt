@@ -1,6 +1,6 @@
--- `zonetable::lengths::text_length` meets its contract.
+-- `zone_table::lengths::text_length` meets its contract.
 -- Assumes nothing.
-use Prim.Native.Nat.{ℕ, _-_, _*_, _≤_}
+use Prim.Native.Nat.{ℕ, _+_, _-_, _*_, _≤_}
 use mathlib.Core.Path.{_≡_, ap}
 use lib.ListN.{length}
 use Rattle.zone_table.proofs.RowLaws.{zoneRow}
@@ -11,22 +11,22 @@ use Rattle.zone_table.proofs.lengths.text_length.Statement.{statement}
 use Rattle.zone_table.proofs.lengths.text_length.Tie as tie
 
 abbrev Inv-loop : tie.InvT-loop
-Inv-loop table n₀ k₀ n k = (k ≤ 48) × (n ≡ length (zoneRow table k)) × (n ≤ 34359800000 * k)
+Inv-loop zones n₀ k₀ n k = (k ≤ 48) × (n ≡ length (zoneRow zones k)) × (n ≤ 34359800000 * k)
 
 abbrev μ-loop : tie.MeasureT-loop
-μ-loop table n₀ k₀ n k = 48 - k
+μ-loop zones n₀ k₀ n k = 48 - k
 
 loop-holds : tie.Need-loop-holds Inv-loop μ-loop
 loop-holds c = let a = c .before .args in omega (arith, zones-none (a .zones .now))
+
+add-k : tie.Need-add-k Inv-loop μ-loop
+add-k c = search needs
 
 zone-length-requires : tie.Need-zone-length-requires Inv-loop μ-loop
 zone-length-requires c κs = search needs
 
 add-n : tie.Need-add-n Inv-loop μ-loop
 add-n c = search needs
-
-add-k : tie.Need-add-k Inv-loop μ-loop
-add-k c = search needs
 
 loop-less : tie.Need-loop-less Inv-loop μ-loop
 loop-less c = search needs
@@ -35,7 +35,9 @@ loop-again : tie.Need-loop-again Inv-loop μ-loop
 loop-again c =
     let a = c .before .before .before .before .args in
     let l = c .before .before .loop in
-    omega (arith, l .inv, zones-step (a .zones .now) (l .k) (c .zone-length .result) (c .zone-length .ensures .0), c .zone-length .ensures .1)
+    let e : l .k + 1 - 1 ≡ l .k = omega arith in
+    let z = zones-step (a .zones .now) (l .k) (c .zone-length .result) (rw e at (c .zone-length .ensures .0)) in
+    omega (arith, l .inv, z, c .zone-length .ensures .1)
 
 add-result : tie.Need-add-result Inv-loop μ-loop
 add-result c = search needs
@@ -54,9 +56,9 @@ text-length-spec =
     Inv-loop
     μ-loop
     loop-holds
+    add-k
     zone-length-requires
     add-n
-    add-k
     loop-less
     loop-again
     add-result

@@ -1,38 +1,33 @@
--- `zonetable::lengths::zone_length` meets its contract.
+-- `zone_table::lengths::zone_length` meets its contract.
 -- Assumes nothing.
-use native.Mathlib.Omega.{arith}
-use Prim.Native.Nat.{_-_, _*_}
+use Prim.Native.Nat.{ℕ, _-_, _*_}
+use mathlib.Core.Path.{ap, _∙_}
 use lib.ListN.{getD}
 use Rattle.meaning.specs.Text.ProposalText.{zoneText}
 use Rattle.meaning.specs.Text.ProposalTable.{zoneIn}
 use Rattle.zone_table.proofs.LengthLaws.{not-there, zone-sum}
 use borrow.Author.Needs.{needs}
+use native.Mathlib.Omega.{arith}
 use Rattle.zone_table.proofs.lengths.zone_length.Statement.{statement}
 use Rattle.zone_table.proofs.lengths.zone_length.Tie as tie
 
-mul-cell : tie.Need-mul-cell
-mul-cell c = search needs
+head-start-requires : tie.Need-head-start-requires
+head-start-requires c κs = search needs
 
 cell-requires : tie.Need-cell-requires
 cell-requires c κs = search needs
 
 returns : tie.Need-returns
-returns c = let a = c .before .before .before .args in omega (arith, not-there (getD (a .zones .now) (8 * a .k) 0) (zoneText (zoneIn (a .zones .now) (a .k))) (omega (arith, c .before .cell .ensures)))
+returns c =
+    let a = c .before .before .before .before .args in
+    let e = c .before .cell .ensures ∙ ap (λ (i : ℕ). getD (a .zones .now) i 0) (c .before .before .head-start .ensures) in
+    omega (arith, not-there (getD (a .zones .now) (8 * (a .zone - 1)) 0) (zoneText (zoneIn (a .zones .now) (a .zone - 1))) (omega (arith, e)))
 
-start-requires : tie.Need-start-requires
-start-requires c κs = search needs
+claims-start-requires : tie.Need-claims-start-requires
+claims-start-requires c κs = search needs
 
-mul-cell-2 : tie.Need-mul-cell-2
-mul-cell-2 c = search needs
-
-add-cell : tie.Need-add-cell
-add-cell c = search needs
-
-cell-requires-2 : tie.Need-cell-requires-2
-cell-requires-2 c κs = search needs
-
-distance-requires : tie.Need-distance-requires
-distance-requires c κs = search needs
+claims-requires : tie.Need-claims-requires
+claims-requires c κs = search needs
 
 order-length-requires : tie.Need-order-length-requires
 order-length-requires c κs = search needs
@@ -51,11 +46,10 @@ add-result-2 c = search needs
 
 returns-2 : tie.Need-returns-2
 returns-2 c =
-    let d = c .before .before .before in
-    let b = d .before .before .before .before in
-    let a = b .before .before .args in
-    let e = b .cell .ensures in (
-      zone-sum (a .zones .now) (a .k) _ _ _ _ _ _ (omega arith) (d .before .before .start .ensures) (d .before .cell2 .ensures) (d .distance .ensures) (c .before .before .order-length .ensures .0) (c .before .bounds-length .ensures .0) (c .claims-length .ensures .0),
+    let b = c .before .before .before .before .before .before in
+    let a = b .before .before .before .args in
+    let e = b .cell .ensures ∙ ap (λ (i : ℕ). getD (a .zones .now) i 0) (b .before .head-start .ensures) in (
+      zone-sum (a .zones .now) (a .zone - 1) _ _ _ _ _ (omega (arith, e)) (c .before .before .before .before .claims-start .ensures) (c .before .before .before .claims .ensures) (c .before .before .order-length .ensures .0) (c .before .bounds-length .ensures .0) (c .claims-length .ensures .0),
       omega (arith, c .before .before .order-length .ensures .1, c .before .bounds-length .ensures .1, c .claims-length .ensures .1),
     )
 
@@ -63,14 +57,11 @@ pub zone-length-spec : {M : Type 1} → statement M
 zone-length-spec =
     tie.close
     (tie.spec
-    mul-cell
+    head-start-requires
     cell-requires
     returns
-    start-requires
-    mul-cell-2
-    add-cell
-    cell-requires-2
-    distance-requires
+    claims-start-requires
+    claims-requires
     order-length-requires
     bounds-length-requires
     add-result

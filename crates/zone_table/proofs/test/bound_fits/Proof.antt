@@ -1,4 +1,4 @@
--- `zonetable::test::bound_fits` meets its contract.
+-- `zone_table::test::bound_fits` meets its contract.
 -- Assumes nothing.
 use native.Mathlib.Omega.{arith}
 use Rattle.zone_table.proofs.Deciding.{no}

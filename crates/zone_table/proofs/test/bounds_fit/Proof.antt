@@ -1,6 +1,7 @@
--- `zonetable::test::bounds_fit` meets its contract.
+-- `zone_table::test::bounds_fit` meets its contract.
 -- Assumes nothing.
 use Prim.Native.Nat.{ℕ, _+_, _-_, _*_, _≤_, _<_}
+use mathlib.Core.Path.{ap, _∙_}
 use lib.ListN.{getD}
 use Rattle.zone_table.specs.Sound.{BoundFits}
 use Rattle.zone_table.proofs.Deciding.{yes, no, all-more, all-fails}
@@ -10,25 +11,19 @@ use Rattle.zone_table.proofs.test.bounds_fit.Statement.{statement}
 use Rattle.zone_table.proofs.test.bounds_fit.Tie as tie
 
 abbrev Inv-loop : tie.InvT-loop
-Inv-loop table k last x₀ x = (x ≤ 289) × ((y : ℕ) → y < x → BoundFits last y (getD table (384 + 289 * k + y) 0))
+Inv-loop zones zone last from x₀ x = (x ≤ 289) × ((y : ℕ) → y < x → BoundFits last y (getD zones (384 + 289 * (zone - 1) + y) 0))
 
 abbrev μ-loop : tie.MeasureT-loop
-μ-loop table k last x₀ x = 289 - x
+μ-loop zones zone last from x₀ x = 289 - x
+
+bounds-start-requires : tie.Need-bounds-start-requires Inv-loop μ-loop
+bounds-start-requires c κs = search needs
 
 loop-holds : tie.Need-loop-holds Inv-loop μ-loop
 loop-holds c = (omega arith, λ y l. absurd (omega arith))
 
-mul-cell : tie.Need-mul-cell Inv-loop μ-loop
-mul-cell c = search needs
-
 add-cell : tie.Need-add-cell Inv-loop μ-loop
 add-cell c = search needs
-
-cast-cell : tie.Need-cast-cell Inv-loop μ-loop
-cast-cell c = search needs
-
-add-cell-2 : tie.Need-add-cell-2 Inv-loop μ-loop
-add-cell-2 c = search needs
 
 cell-requires : tie.Need-cell-requires Inv-loop μ-loop
 cell-requires c κs = search needs
@@ -44,15 +39,17 @@ loop-less c = search needs
 
 loop-again : tie.Need-loop-again Inv-loop μ-loop
 loop-again c =
-    let a = c .before .before .before .before .before .before .args in
+    let a = c .before .before .before .before .before .before .before .args in
     let l = c .before .before .before .before .loop in
-    (omega arith, all-more (BoundFits (a .last)) (λ y. getD (a .zones .now) (384 + 289 * a .k + y) 0) (l .x) (c .before .before .cell .result) (c .before .bound-fits .result) (c .before .before .cell .ensures) (c .before .bound-fits .ensures) (c .if1 .taken) (l .inv .1))
+    let e = c .before .before .cell .ensures ∙ ap (λ (i : ℕ). getD (a .zones .now) (i + l .x) 0) (c .before .before .before .before .before .bounds-start .ensures) in
+    (omega arith, all-more (BoundFits (a .last)) (λ y. getD (a .zones .now) (384 + 289 * (a .zone - 1) + y) 0) (l .x) (c .before .before .cell .result) (c .before .bound-fits .result) e (c .before .bound-fits .ensures) (c .if1 .taken) (l .inv .1))
 
 returns : tie.Need-returns Inv-loop μ-loop
 returns c =
-    let a = c .before .before .before .before .before .before .args in
+    let a = c .before .before .before .before .before .before .before .args in
     let l = c .before .before .before .before .loop in
-    no (all-fails (BoundFits (a .last)) (λ y. getD (a .zones .now) (384 + 289 * a .k + y) 0) (289) (l .x) (c .before .before .cell .result) (c .before .bound-fits .result) (omega arith) (c .before .before .cell .ensures) (c .before .bound-fits .ensures) (c .if1 .left))
+    let e = c .before .before .cell .ensures ∙ ap (λ (i : ℕ). getD (a .zones .now) (i + l .x) 0) (c .before .before .before .before .before .bounds-start .ensures) in
+    no (all-fails (BoundFits (a .last)) (λ y. getD (a .zones .now) (384 + 289 * (a .zone - 1) + y) 0) 289 (l .x) (c .before .before .cell .result) (c .before .bound-fits .result) (omega arith) e (c .before .bound-fits .ensures) (c .if1 .left))
 
 returns-2 : tie.Need-returns-2 Inv-loop μ-loop
 returns-2 c = yes (λ y l. c .before .loop .inv .1 y (omega arith))
@@ -63,11 +60,9 @@ bounds-fit-spec =
     (tie.spec
     Inv-loop
     μ-loop
+    bounds-start-requires
     loop-holds
-    mul-cell
     add-cell
-    cast-cell
-    add-cell-2
     cell-requires
     bound-fits-requires
     add-x

@@ -1,4 +1,4 @@
--- `zonetable::test::claim_fits` meets its contract.
+-- `zone_table::test::claim_fits` meets its contract.
 -- Assumes nothing.
 use native.Mathlib.Omega.{arith}
 use Rattle.zone_table.proofs.Deciding.{no, same-test, at-most}

@@ -1,4 +1,4 @@
--- `zonetable::test::claims_fit` meets its contract.
+-- `zone_table::test::claims_fit` meets its contract.
 -- Assumes nothing.
 use Prim.Native.Nat.{ℕ, _+_, _-_, _≤_, _<_}
 use lib.ListN.{getD}

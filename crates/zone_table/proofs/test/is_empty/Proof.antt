@@ -1,4 +1,4 @@
--- `zonetable::test::is_empty` meets its contract.
+-- `zone_table::test::is_empty` meets its contract.
 -- Assumes nothing.
 use Prim.Native.Nat.{ℕ, _+_, _-_, _≤_, _<_}
 use mathlib.Core.Path.{_≡_}

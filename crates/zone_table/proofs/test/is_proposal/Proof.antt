@@ -1,4 +1,4 @@
--- `zonetable::test::is_proposal` meets its contract.
+-- `zone_table::test::is_proposal` meets its contract.
 -- Assumes nothing.
 use Rattle.zone_table.proofs.Deciding.{no, at-most}
 use Rattle.zone_table.proofs.ZoneTests.{given-test, given-fails}

@@ -1,33 +1,24 @@
--- `zonetable::test::is_unused` meets its contract.
+-- `zone_table::test::is_unused` meets its contract.
 -- Assumes nothing.
 use Rattle.zone_table.proofs.Deciding.{no, same-test, ruled-out}
 use borrow.Author.Needs.{needs}
 use Rattle.zone_table.proofs.test.is_unused.Statement.{statement}
 use Rattle.zone_table.proofs.test.is_unused.Tie as tie
 
-mul-is-empty : tie.Need-mul-is-empty
-mul-is-empty c = search needs
+mul-heads : tie.Need-mul-heads
+mul-heads c = search needs
 
-mul-is-empty-2 : tie.Need-mul-is-empty-2
-mul-is-empty-2 c = search needs
+mul-bounds : tie.Need-mul-bounds
+mul-bounds c = search needs
+
+add-bounds : tie.Need-add-bounds
+add-bounds c = search needs
 
 sub-is-empty : tie.Need-sub-is-empty
 sub-is-empty c = search needs
 
 is-empty-requires : tie.Need-is-empty-requires
 is-empty-requires c κs = search needs
-
-mul-is-empty-3 : tie.Need-mul-is-empty-3
-mul-is-empty-3 c = search needs
-
-add-is-empty : tie.Need-add-is-empty
-add-is-empty c = search needs
-
-mul-is-empty-4 : tie.Need-mul-is-empty-4
-mul-is-empty-4 c = search needs
-
-add-is-empty-2 : tie.Need-add-is-empty-2
-add-is-empty-2 c = search needs
 
 sub-is-empty-2 : tie.Need-sub-is-empty-2
 sub-is-empty-2 c = search needs
@@ -47,14 +38,11 @@ pub is-unused-spec : {M : Type 1} → statement M
 is-unused-spec =
     tie.close
     (tie.spec
-    mul-is-empty
-    mul-is-empty-2
+    mul-heads
+    mul-bounds
+    add-bounds
     sub-is-empty
     is-empty-requires
-    mul-is-empty-3
-    add-is-empty
-    mul-is-empty-4
-    add-is-empty-2
     sub-is-empty-2
     is-empty-requires-2
     returns

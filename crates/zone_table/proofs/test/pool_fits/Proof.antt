@@ -1,4 +1,4 @@
--- `zonetable::test::pool_fits` meets its contract.
+-- `zone_table::test::pool_fits` meets its contract.
 -- Assumes nothing.
 use Rattle.zone_table.proofs.Deciding.{no, same-test, ruled-out}
 use borrow.Author.Needs.{needs}

@@ -8,8 +8,6 @@ use lib.ListN.{length, length-set}
 use Rattle.zone_text.proofs.Laws.Clearing.{cleared, cleared-step, cleared-all, cleared-none}
 use Rattle.zone_text.proofs.reading.clear.Statement.{statement}
 use Rattle.zone_text.proofs.reading.clear.Tie as tie
-use Rattle.zone_text.proofs.reading.clear.Reads as reads
-use Rattle.zone_text.proofs.reading.clear.Lts as lts
 
 abbrev Inv-loop : tie.InvT-loop
 Inv-loop t₀ i₀ t i = (i ≤ length t₀) × (length t ≡ length t₀) × (t ≡ cleared t₀ i)

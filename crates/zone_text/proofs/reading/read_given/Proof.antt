@@ -10,11 +10,6 @@ use Rattle.zone_text.proofs.Laws.Reading.{answered-refused, answered-as
 use borrow.Author.Needs.{needs}
 use Rattle.zone_text.proofs.reading.read_given.Statement.{statement}
 use Rattle.zone_text.proofs.reading.read_given.Tie as tie
-use Rattle.zone_text.proofs.reading.read_given.Reads as reads
-use Rattle.zone_text.proofs.reading.read_given.Lts as lts
-use Rattle.lines.proofs.stops.first_stop.Reads as first-stop-reads
-use Rattle.zone_text.proofs.reading.clear.Reads as clear-reads
-use Rattle.zone_text.proofs.reading.read_records.Reads as read-records-reads
 
 clear-requires : tie.Need-clear-requires
 clear-requires c κs = search needs

@@ -8,11 +8,6 @@ use Rattle.zone_text.proofs.Laws.Reading.{answered-refused, read-no-mod
 use borrow.Author.Needs.{needs}
 use Rattle.zone_text.proofs.reading.read_proposal.Statement.{statement}
 use Rattle.zone_text.proofs.reading.read_proposal.Tie as tie
-use Rattle.zone_text.proofs.reading.read_proposal.Reads as reads
-use Rattle.zone_text.proofs.reading.read_proposal.Lts as lts
-use Rattle.model_text.proofs.writing.is_model.Reads as is-model-reads
-use Rattle.zone_text.proofs.reading.clear.Reads as clear-reads
-use Rattle.zone_text.proofs.reading.read_given.Reads as read-given-reads
 
 is-model-requires : tie.Need-is-model-requires
 is-model-requires c κs = search needs

@@ -3,15 +3,11 @@
 use Prim.Native.Nat.{ℕ, _-_}
 use mathlib.Core.Path.{sym, ap, _∙_}
 use lib.ListN.{length, replicate}
-use Rattle.zone_text.proofs.Laws.Reading.{ReadingAt, reading-start, holds, ready, turn-next, turn-end, turn-fault}
+use Rattle.zone_text.proofs.Laws.Reading.{ReadingAt, reading-start, holds, ready, begun-ready, turn-next, turn-end, turn-fault}
 use borrow.Author.Needs.{needs}
 use native.Mathlib.Omega.{arith}
 use Rattle.zone_text.proofs.reading.read_records.Statement.{statement}
 use Rattle.zone_text.proofs.reading.read_records.Tie as tie
-use Rattle.zone_text.proofs.reading.read_records.Reads as reads
-use Rattle.zone_text.proofs.reading.read_records.Lts as lts
-use Rattle.zone_text.proofs.reading.clear.Reads as clear-reads
-use Rattle.zone_text.proofs.reading_records.take.Reads as take-reads
 
 abbrev Inv-loop : tie.InvT-loop
 Inv-loop model s t₀ at₀ x₀ t at x = ReadingAt model s at x t
@@ -28,8 +24,11 @@ loop-holds c =
 take-requires : tie.Need-take-requires Inv-loop μ-loop
 take-requires c κs =
     let a = c .before .before .before .before .before .args in
-    let l = c .before .loop in
-    (l .inv .model, ready (a .model .now) (a .s .now) (l .at) (l .x) (l .t) (l .inv))
+    let l = c .before .loop in (
+      l .inv .model,
+      ready (a .model .now) (a .s .now) (l .at) (l .x) (l .t) (l .inv),
+      begun-ready (a .model .now) (a .s .now) (l .at) (l .x) (l .t) (l .inv),
+    )
 
 enum-known-next : tie.Need-enum-known-next Inv-loop μ-loop
 enum-known-next c = search needs

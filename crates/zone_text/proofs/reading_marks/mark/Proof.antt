@@ -5,10 +5,6 @@ use native.Mathlib.Omega.{arith}
 use borrow.Author.Needs.{needs}
 use Rattle.zone_text.proofs.reading_marks.mark.Statement.{statement}
 use Rattle.zone_text.proofs.reading_marks.mark.Tie as tie
-use Rattle.zone_text.proofs.reading_marks.mark.Reads as reads
-use Rattle.zone_text.proofs.reading_marks.mark.Lts as lts
-use Rattle.lines.proofs.places.byte_at.Reads as byte-at-reads
-use Rattle.zone_text.proofs.reading_marks.mark_of.Reads as mark-of-reads
 
 byte-at-requires : tie.Need-byte-at-requires
 byte-at-requires c κs = search needs

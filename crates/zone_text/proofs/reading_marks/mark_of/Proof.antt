@@ -4,8 +4,6 @@ use mathlib.Core.Path.{sym}
 use Rattle.zone_text.proofs.Laws.Marks.{mark-order, mark-bound, mark-claims, mark-end, mark-none}
 use Rattle.zone_text.proofs.reading_marks.mark_of.Statement.{statement}
 use Rattle.zone_text.proofs.reading_marks.mark_of.Tie as tie
-use Rattle.zone_text.proofs.reading_marks.mark_of.Reads as reads
-use Rattle.zone_text.proofs.reading_marks.mark_of.Lts as lts
 
 returns : tie.Need-returns
 returns c a b h e = sym (mark-order a b _ h e (c .match .keys1))

@@ -6,13 +6,6 @@ use Rattle.zone_text.proofs.Laws.Orders.{took-wrong}
 use Rattle.zone_text.proofs.Laws.Marks.{look-order, look-bound, look-claims, look-end, look-none}
 use Rattle.zone_text.proofs.reading_records.take.Statement.{statement}
 use Rattle.zone_text.proofs.reading_records.take.Tie as tie
-use Rattle.zone_text.proofs.reading_records.take.Reads as reads
-use Rattle.zone_text.proofs.reading_records.take.Lts as lts
-use Rattle.zone_text.proofs.reading_marks.mark.Reads as mark-reads
-use Rattle.zone_text.proofs.reading_records.take_bound.Reads as take-bound-reads
-use Rattle.zone_text.proofs.reading_records.take_claims.Reads as take-claims-reads
-use Rattle.zone_text.proofs.reading_records.take_end.Reads as take-end-reads
-use Rattle.zone_text.proofs.reading_records.take_order.Reads as take-order-reads
 
 mark-requires : tie.Need-mark-requires
 mark-requires c κs = search needs

@@ -1,4 +1,4 @@
--- `take_order` meets its contract.
+-- `zone_text::reading_records::take_order` meets its contract.
 -- Assumes nothing.
 use mathlib.Core.Path.{sym, _∙_}
 use borrow.Author.Tests.{not-true, not-false}
@@ -6,27 +6,27 @@ use Rattle.meaning.specs.Text.ModelTable.{decode}
 use Rattle.model_table.proofs.PartLaws.{locations-is, tasks-is}
 use Rattle.zone_text.proofs.Laws.Orders.{took-wrong, order-due, order-full, order-refused, order-twice, order-taken}
 use borrow.Author.Needs.{needs}
+use native.Mathlib.Omega.{arith}
 use Rattle.zone_text.proofs.reading_records.take_order.Statement.{statement}
 use Rattle.zone_text.proofs.reading_records.take_order.Tie as tie
-use Rattle.zone_text.proofs.reading_records.take_order.Reads as reads
-use Rattle.zone_text.proofs.reading_records.take_order.Lts as lts
-use Rattle.model_table.proofs.counts.locations.Reads as locations-reads
-use Rattle.model_table.proofs.counts.tasks.Reads as tasks-reads
-use Rattle.steps.proofs.claims.fit.Reads as fit-reads
-use Rattle.zone_text.proofs.reading_rows.read_order.Reads as read-order-reads
 
 returns : tie.Need-returns
 returns c =
-    let a = c .before .before .before .before .args in
+    let b = c .before .before .before .before in
+    let a = b .args in
     λ y h. took-wrong _ y 3 (a .at) _ _ (order-due (decode (a .model .now)) (a .s .now) (a .at) y (a .x) (a .t .now) h (c .if1 .taken))
 
 returns-2 : tie.Need-returns-2
 returns-2 c =
-    let a = c .before .before .before .before .before .before .args in
+    let b = c .before .before .before .before .before .before in
+    let a = b .args in
     λ y h. took-wrong _ y 10 (a .at) _ _ (order-full (decode (a .model .now)) (a .s .now) (a .at) y (a .x) (a .t .now) h (c .before .before .if1 .left) (c .if2 .taken))
 
-mul-q : tie.Need-mul-q
-mul-q c = search needs
+add-zone : tie.Need-add-zone
+add-zone c = search needs
+
+head-start-requires : tie.Need-head-start-requires
+head-start-requires c κs = search needs
 
 add-read-order : tie.Need-add-read-order
 add-read-order c = search needs
@@ -45,30 +45,31 @@ same-length c = search needs
 
 returns-3 : tie.Need-returns-3
 returns-3 c =
-    let a = c .before .before .before .before .before .before .before .before .before .before .before .before .before .before .before .args in
-    let g = c .before .before .before .before .before .before .before .before .before .before .before .before .before .before .before .pre .0 in
-    λ y h. took-wrong _ y _ _ _ _ (order-refused (decode (a .model .now)) (a .s .now) (a .at) y (a .x) (a .t .now) h (c .before .before .before .before .before .before .before .before .before .before .before .if1 .left) (c .before .before .before .before .before .before .before .before .before .if2 .left)
-    _ _ (c .before .before .before .before .before .before .before .locations .ensures ∙ locations-is (a .model .now) g) (c .before .before .before .before .before .before .tasks .ensures ∙ tasks-is (a .model .now) g) (c .before .before .before .before .read-order .result) _ (c .before .before .before .before .read-order .ensures .0) (c .if3 .taken))
+    let b = c .before .before .before .before .before .before .before .before .before .before .before .before .before .before .before .before in
+    let a = b .args in
+    λ y h. took-wrong _ y _ _ _ _ (order-refused (decode (a .model .now)) (a .s .now) (a .at) y (a .x) (a .t .now) h (c .before .before .before .before .before .before .before .before .before .before .before .before .if1 .left) (c .before .before .before .before .before .before .before .before .before .before .if2 .left) _ _ (c .before .before .before .before .before .before .before .locations .ensures ∙ locations-is (a .model .now) (b .pre .0)) (c .before .before .before .before .before .before .tasks .ensures ∙ tasks-is (a .model .now) (b .pre .0)) (c .before .before .before .before .read-order .result) _ _ (c .before .before .before .before .before .before .before .before .head-start .ensures) (c .before .before .before .before .read-order .ensures .0) (c .if3 .taken))
 
-add-fit : tie.Need-add-fit
-add-fit c = search needs
+cast-home-with : tie.Need-cast-home-with
+cast-home-with c = search needs
 
-fit-requires : tie.Need-fit-requires
-fit-requires c κs = search needs
+home-with-requires : tie.Need-home-with-requires
+home-with-requires c κs = search needs
+
+fits-requires : tie.Need-fits-requires
+fits-requires c κs = (c .before .before .before .before .before .before .before .before .before .before .before .before .before .before .before .before .before .before .before .before .pre .0, c .before .before .before .before .before .before .before .before .read-order .ensures .1)
 
 same-length-2 : tie.Need-same-length-2
 same-length-2 c = search needs
 
 returns-4 : tie.Need-returns-4
 returns-4 c =
-    let a = c .before .before .before .before .before .before .before .before .before .before .before .before .before .before .before .before .before .before .args in
-    let g = c .before .before .before .before .before .before .before .before .before .before .before .before .before .before .before .before .before .before .pre .0 in
-    λ y h. took-wrong _ y 6 (a .at) _ _ (order-twice (decode (a .model .now)) (a .s .now) (a .at) y (a .x) (a .t .now) h (c .before .before .before .before .before .before .before .before .before .before .before .before .before .before .if1 .left) (c .before .before .before .before .before .before .before .before .before .before .before .before .if2 .left)
-    _ _ (c .before .before .before .before .before .before .before .before .before .before .locations .ensures ∙ locations-is (a .model .now) g) (c .before .before .before .before .before .before .before .before .before .tasks .ensures ∙ tasks-is (a .model .now) g) (c .before .before .before .before .before .before .before .read-order .result) _ (c .before .before .before .before .before .before .before .read-order .ensures .0)
-    (c .before .before .before .if3 .left) (c .before .before .before .before .before .before .before .read-order .ensures .1) (sym (c .before .fit .ensures (decode (a .model .now))) ∙ not-true _ (c .if4 .taken)))
+    let b = c .before .before .before .before .before .before .before .before .before .before .before .before .before .before .before .before .before .before .before .before .before .before in
+    let a = b .args in
+    λ y h. took-wrong _ y 6 (a .at) _ _ (order-twice (decode (a .model .now)) (a .s .now) (a .at) y (a .x) (a .t .now) h (c .before .before .before .before .before .before .before .before .before .before .before .before .before .before .before .before .before .before .if1 .left) (c .before .before .before .before .before .before .before .before .before .before .before .before .before .before .before .before .if2 .left) _ _ (c .before .before .before .before .before .before .before .before .before .before .before .before .before .locations .ensures ∙ locations-is (a .model .now) (b .pre .0)) (c .before .before .before .before .before .before .before .before .before .before .before .before .tasks .ensures ∙ tasks-is (a .model .now) (b .pre .0)) (c .before .before .before .before .before .before .before .before .before .before .read-order .result) _ _ (c .before .before .before .before .before .before .before .before .before .before .before .before .before .before .head-start .ensures) (c .before .before .before .before .before .before .before .before .before .before .read-order .ensures .0)
+    (c .before .before .before .before .before .before .if3 .left) (c .before .before .before .before .before .before .before .before .before .before .read-order .ensures .1) (c .before .before .before .home-with .result) (c .before .before .before .home-with .ensures) (sym (c .before .fits2 .ensures) ∙ not-true _ (c .if4 .taken)))
 
 cast-t : tie.Need-cast-t
-cast-t c = search needs
+cast-t c = let p = c .before .before .before .before .before .before .before .before .before .before .before .before .before .before .before .before .before .before .before .before .before .before .before .pre .1 in record { fits = omega (arith, p .pool, p .zones) }
 
 add-t : tie.Need-add-t
 add-t c = search needs
@@ -77,18 +78,17 @@ mul-t : tie.Need-mul-t
 mul-t c = search needs
 
 slice-write-t : tie.Need-slice-write-t
-slice-write-t c = search needs
+slice-write-t c = let n = c .before .before .before .before .before .before .before .before .before .before .before .read-order .kept .1 .1 .1 .1 .0 ∙ c .before .before .before .before .before .before .before .before .before .before .before .before .before .before .before .before .before .before .before .before .before .before .before .pre .1 .long in omega (arith, n, c .before .before .before .before .before .before .before .before .before .before .before .before .before .before .before .head-start .ensures, c .before .before .before .before .before .before .before .before .before .before .before .before .before .before .before .before .before .before .before .before .before .before .before .pre .1 .zones)
 
 same-length-3 : tie.Need-same-length-3
 same-length-3 c = search needs
 
 returns-5 : tie.Need-returns-5
 returns-5 c =
-    let a = c .before .before .before .before .before .before .before .before .before .before .before .before .before .before .before .before .before .before .before .args in
-    let g = c .before .before .before .before .before .before .before .before .before .before .before .before .before .before .before .before .before .before .before .pre .0 in
-    λ y h. order-taken (decode (a .model .now)) (a .s .now) (a .at) y (a .x) (a .t .now) h (c .before .before .before .before .before .before .before .before .before .before .before .before .before .before .before .if1 .left) (c .before .before .before .before .before .before .before .before .before .before .before .before .before .if2 .left)
-    _ _ (c .before .before .before .before .before .before .before .before .before .before .before .locations .ensures ∙ locations-is (a .model .now) g) (c .before .before .before .before .before .before .before .before .before .before .tasks .ensures ∙ tasks-is (a .model .now) g) (c .before .before .before .before .before .before .before .before .read-order .result) _ (c .before .before .before .before .before .before .before .before .read-order .ensures .0)
-    (c .before .before .before .before .if3 .left) (c .before .before .before .before .before .before .before .before .read-order .ensures .1) (sym (c .before .before .fit .ensures (decode (a .model .now))) ∙ not-false _ (c .before .if4 .left))
+    let b = c .before .before .before .before .before .before .before .before .before .before .before .before .before .before .before .before .before .before .before .before .before .before .before in
+    let a = b .args in
+    λ y h. order-taken (decode (a .model .now)) (a .s .now) (a .at) y (a .x) (a .t .now) h (c .before .before .before .before .before .before .before .before .before .before .before .before .before .before .before .before .before .before .before .if1 .left) (c .before .before .before .before .before .before .before .before .before .before .before .before .before .before .before .before .before .if2 .left) _ _ (c .before .before .before .before .before .before .before .before .before .before .before .before .before .before .locations .ensures ∙ locations-is (a .model .now) (b .pre .0)) (c .before .before .before .before .before .before .before .before .before .before .before .before .before .tasks .ensures ∙ tasks-is (a .model .now) (b .pre .0)) (c .before .before .before .before .before .before .before .before .before .before .before .read-order .result) _ _ (c .before .before .before .before .before .before .before .before .before .before .before .before .before .before .before .head-start .ensures) (c .before .before .before .before .before .before .before .before .before .before .before .read-order .ensures .0)
+    (c .before .before .before .before .before .before .before .if3 .left) (c .before .before .before .before .before .before .before .before .before .before .before .read-order .ensures .1) (c .before .before .before .before .home-with .result) (c .before .before .before .before .home-with .ensures) (sym (c .before .before .fits2 .ensures) ∙ not-false _ (c .before .if4 .left))
 
 pub take-order-spec : {M : Type 1} → statement M
 take-order-spec =
@@ -96,15 +96,17 @@ take-order-spec =
     (tie.spec
     returns
     returns-2
-    mul-q
+    add-zone
+    head-start-requires
     add-read-order
     locations-requires
     tasks-requires
     read-order-requires
     same-length
     returns-3
-    add-fit
-    fit-requires
+    cast-home-with
+    home-with-requires
+    fits-requires
     same-length-2
     returns-4
     cast-t

@@ -5,9 +5,6 @@ use Rattle.zone_text.proofs.Laws.Rows.{join-bad, join-in, join-out, out
 use borrow.Author.Needs.{needs}
 use Rattle.zone_text.proofs.reading_rows.joined.Statement.{statement}
 use Rattle.zone_text.proofs.reading_rows.joined.Tie as tie
-use Rattle.zone_text.proofs.reading_rows.joined.Reads as reads
-use Rattle.zone_text.proofs.reading_rows.joined.Lts as lts
-use Rattle.zone_text.proofs.reading_rows.refused.Reads as refused-reads
 
 returns : tie.Need-returns
 returns c =

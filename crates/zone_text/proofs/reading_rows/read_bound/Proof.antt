@@ -9,9 +9,6 @@ use Rattle.zone_text.proofs.Laws.Rows.{bound-below, bound-ranges, bound
 use borrow.Author.Needs.{needs}
 use Rattle.zone_text.proofs.reading_rows.read_bound.Statement.{statement}
 use Rattle.zone_text.proofs.reading_rows.read_bound.Tie as tie
-use Rattle.zone_text.proofs.reading_rows.read_bound.Reads as reads
-use Rattle.zone_text.proofs.reading_rows.read_bound.Lts as lts
-use Rattle.lines.proofs.fields.read_line.Reads as read-line-reads
 
 mul-t9 : tie.Need-mul-t9
 mul-t9 c = search needs

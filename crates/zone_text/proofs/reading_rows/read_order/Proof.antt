@@ -3,7 +3,7 @@
 use Prim.Native.Nat.{_+_, _≤_}
 use mathlib.Core.Path.{sym, ap, _∙_}
 use native.Mathlib.Omega.{arith}
-use lib.ListN.{length, length-set}
+use lib.ListN.{length-set}
 use Rattle.meaning.proofs.Text.Places.{field-next}
 use Rattle.meaning.proofs.Text.NumeralSmall.{field-small}
 use Rattle.lines.specs.Meant.{meant}
@@ -11,12 +11,6 @@ use Rattle.zone_text.proofs.Laws.Rows.{head-stuck, head-then, head-told
 use borrow.Author.Needs.{needs}
 use Rattle.zone_text.proofs.reading_rows.read_order.Statement.{statement}
 use Rattle.zone_text.proofs.reading_rows.read_order.Tie as tie
-use Rattle.zone_text.proofs.reading_rows.read_order.Reads as reads
-use Rattle.zone_text.proofs.reading_rows.read_order.Lts as lts
-use Rattle.lines.proofs.fields.read_field.Reads as read-field-reads
-use Rattle.zone_text.proofs.reading_rows.joined.Reads as joined-reads
-use Rattle.zone_text.proofs.reading_rows.read_row.Reads as read-row-reads
-use Rattle.zone_text.proofs.reading_rows.refused.Reads as refused-reads
 
 read-field-requires : tie.Need-read-field-requires
 read-field-requires c κs = search needs

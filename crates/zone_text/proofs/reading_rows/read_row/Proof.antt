@@ -13,12 +13,6 @@ use borrow.Author.Needs.{needs}
 use native.Mathlib.Omega.{arith}
 use Rattle.zone_text.proofs.reading_rows.read_row.Statement.{statement}
 use Rattle.zone_text.proofs.reading_rows.read_row.Tie as tie
-use Rattle.zone_text.proofs.reading_rows.read_row.Reads as reads
-use Rattle.zone_text.proofs.reading_rows.read_row.Lts as lts
-use Rattle.lines.proofs.fields.first_out.Reads as first-out-reads
-use Rattle.lines.proofs.fields.read_field.Reads as read-field-reads
-use Rattle.lines.proofs.places.byte_is.Reads as byte-is-reads
-use Rattle.zone_text.proofs.reading_rows.refused.Reads as refused-reads
 
 abbrev Inv-loop : tie.InvT-loop
 Inv-loop s at most low high t₀ q room k₀ p₀ o₀ t k p o = Taking s at most low high t₀ q room t k p o

@@ -1,4 +1,4 @@
--- `proposal::writing::write_bound` meets its contract.
+-- `zone_text::writing::write_bound` meets its contract.
 -- Assumes nothing.
 use native.Mathlib.Omega.{arith}
 use Rattle.lines.proofs.Laws.Putting.{put-length, put-nothing}

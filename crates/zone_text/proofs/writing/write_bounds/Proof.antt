@@ -1,9 +1,9 @@
--- `proposal::writing::write_bounds` meets its contract.
+-- `zone_text::writing::write_bounds` meets its contract.
 -- Assumes nothing.
 use Rattle.lines.proofs.Laws.Putting.{put-length}
-use Prim.Native.Nat.{_-_, _≤_}
-use mathlib.Core.Path.{_≡_, _∙_, refl}
-use lib.ListN.{length}
+use Prim.Native.Nat.{ℕ, _+_, _-_, _≤_}
+use mathlib.Core.Path.{_≡_, _∙_, ap, refl}
+use lib.ListN.{length, getD}
 use Rattle.lines.specs.Put.{Put}
 use Rattle.zone_table.proofs.RowLaws.{boundRow}
 use Rattle.zone_text.proofs.PutRows.{bounds-put-all, bounds-put-none, bounds-put, bounds-room}
@@ -13,22 +13,19 @@ use Rattle.zone_text.proofs.writing.write_bounds.Statement.{statement}
 use Rattle.zone_text.proofs.writing.write_bounds.Tie as tie
 
 abbrev Inv-loop : tie.InvT-loop
-Inv-loop table k buf₀ at p₀ x₀ buf p x = (x ≤ 289) × (length buf ≡ length buf₀) × Put buf₀ at (boundRow table k x) buf p
+Inv-loop table zone buf₀ at from p₀ x₀ buf p x = (x ≤ 289) × (length buf ≡ length buf₀) × Put buf₀ at (boundRow table (zone - 1) x) buf p
 
 abbrev μ-loop : tie.MeasureT-loop
-μ-loop table k buf₀ at p₀ x₀ buf p x = 289 - x
+μ-loop table zone buf₀ at from p₀ x₀ buf p x = 289 - x
+
+bounds-start-requires : tie.Need-bounds-start-requires Inv-loop μ-loop
+bounds-start-requires c κs = search needs
 
 loop-holds : tie.Need-loop-holds Inv-loop μ-loop
-loop-holds c = let a = c .before .before .args in (omega arith, refl, bounds-put-none (a .table .now) (a .k) (a .buf .now) (a .at))
-
-mul-cell : tie.Need-mul-cell Inv-loop μ-loop
-mul-cell c = search needs
+loop-holds c = let a = c .before .before .before .args in (omega arith, refl, bounds-put-none (a .table .now) (a .zone - 1) (a .buf .now) (a .at))
 
 add-cell : tie.Need-add-cell Inv-loop μ-loop
 add-cell c = search needs
-
-add-cell-2 : tie.Need-add-cell-2 Inv-loop μ-loop
-add-cell-2 c = search needs
 
 cell-requires : tie.Need-cell-requires Inv-loop μ-loop
 cell-requires c κs = search needs
@@ -41,10 +38,11 @@ cast-write-bound-2 c = search needs
 
 write-bound-requires : tie.Need-write-bound-requires Inv-loop μ-loop
 write-bound-requires c κs =
-    let b = c .before .before .before .before .before .before in
+    let b = c .before .before .before .before .before .before .before in
     let a = b .args in
     let l = c .before .before .before .loop in
-    bounds-room (a .table .now) (a .k) (a .buf .now) (a .at) (l .buf) (l .p) (l .x) _ (c .before .cell .ensures) (l .inv .2) (l .inv .1) (omega arith) (b .pre .1)
+    let e = c .before .cell .ensures ∙ ap (λ (i : ℕ). getD (a .table .now) (i + l .x) 0) (c .before .before .before .before .bounds-start .ensures) in
+    bounds-room (a .table .now) (a .zone - 1) (a .buf .now) (a .at) (l .buf) (l .p) (l .x) _ e (l .inv .2) (l .inv .1) (omega arith) (b .pre .2)
 
 add-x : tie.Need-add-x Inv-loop μ-loop
 add-x c = search needs
@@ -54,16 +52,17 @@ loop-less c = search needs
 
 loop-again : tie.Need-loop-again Inv-loop μ-loop
 loop-again c =
-    let a = c .before .before .before .before .before .before .before .before .before .args in
+    let a = c .before .before .before .before .before .before .before .before .before .before .args in
     let l = c .before .before .before .before .before .before .loop in
+    let e = c .before .before .before .before .cell .ensures ∙ ap (λ (i : ℕ). getD (a .table .now) (i + l .x) 0) (c .before .before .before .before .before .before .before .bounds-start .ensures) in
     let w = c .before .before .write-bound in
-    (omega arith, put-length _ _ _ _ _ (w .ensures) ∙ l .inv .1, bounds-put (a .table .now) (a .k) (a .buf .now) (a .at) (l .buf) _ (l .p) (w .result) (l .x) _ (c .before .before .before .before .cell .ensures) (l .inv .2) (w .ensures))
+    (omega arith, put-length _ _ _ _ _ (w .ensures) ∙ l .inv .1, bounds-put (a .table .now) (a .zone - 1) (a .buf .now) (a .at) (l .buf) _ (l .p) (w .result) (l .x) _ e (l .inv .2) (w .ensures))
 
 same-length : tie.Need-same-length Inv-loop μ-loop
 same-length c = c .before .loop .inv .1
 
 returns : tie.Need-returns Inv-loop μ-loop
-returns c = let a = c .before .before .before .before .args in let l = c .before .loop in bounds-put-all (a .table .now) (a .k) (a .buf .now) (a .at) (l .buf) (l .p) (l .x) (omega arith) (l .inv .2)
+returns c = let a = c .before .before .before .before .before .args in let l = c .before .loop in bounds-put-all (a .table .now) (a .zone - 1) (a .buf .now) (a .at) (l .buf) (l .p) (l .x) (omega arith) (l .inv .2)
 
 pub write-bounds-spec : {M : Type 1} → statement M
 write-bounds-spec =
@@ -71,10 +70,9 @@ write-bounds-spec =
     (tie.spec
     Inv-loop
     μ-loop
+    bounds-start-requires
     loop-holds
-    mul-cell
     add-cell
-    add-cell-2
     cell-requires
     cast-write-bound
     cast-write-bound-2

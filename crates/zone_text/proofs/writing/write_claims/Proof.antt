@@ -1,4 +1,4 @@
--- `proposal::writing::write_claims` meets its contract.
+-- `zone_text::writing::write_claims` meets its contract.
 -- Assumes nothing.
 use Prim.Native.Nat.{ℕ, _+_, _-_}
 use mathlib.Core.List.{map}

@@ -1,4 +1,4 @@
--- `proposal::writing::write_numbers` meets its contract.
+-- `zone_text::writing::write_numbers` meets its contract.
 -- Assumes nothing.
 use Rattle.lines.proofs.Laws.Putting.{put-length}
 use Prim.Native.Nat.{_-_, _≤_}

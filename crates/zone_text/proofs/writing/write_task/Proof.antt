@@ -1,4 +1,4 @@
--- `proposal::writing::write_task` meets its contract.
+-- `zone_text::writing::write_task` meets its contract.
 -- Assumes nothing.
 use mathlib.Core.Path.{sym, ap}
 use native.Mathlib.Omega.{arith}

@@ -1,9 +1,9 @@
--- `proposal::writing::write_tasks` meets its contract.
+-- `zone_text::writing::write_tasks` meets its contract.
 -- Assumes nothing.
 use Rattle.lines.proofs.Laws.Putting.{put-length}
-use Prim.Native.Nat.{_-_, _≤_}
-use mathlib.Core.Path.{_≡_, _∙_, refl}
-use lib.ListN.{length}
+use Prim.Native.Nat.{ℕ, _+_, _-_, _≤_}
+use mathlib.Core.Path.{_≡_, _∙_, ap, refl}
+use lib.ListN.{length, getD}
 use Rattle.lines.specs.Put.{Put}
 use Rattle.zone_table.proofs.RowLaws.{taskRow}
 use Rattle.zone_text.proofs.PutRows.{tasks-put-all, tasks-put-none, tasks-put, tasks-room}
@@ -13,16 +13,16 @@ use Rattle.zone_text.proofs.writing.write_tasks.Statement.{statement}
 use Rattle.zone_text.proofs.writing.write_tasks.Tie as tie
 
 abbrev Inv-loop : tie.InvT-loop
-Inv-loop table k buf₀ at p₀ x₀ buf p x = (x ≤ 6) × (length buf ≡ length buf₀) × Put buf₀ at (taskRow table k x) buf p
+Inv-loop table zone buf₀ at from p₀ x₀ buf p x = (x ≤ 6) × (length buf ≡ length buf₀) × Put buf₀ at (taskRow table (zone - 1) x) buf p
 
 abbrev μ-loop : tie.MeasureT-loop
-μ-loop table k buf₀ at p₀ x₀ buf p x = 6 - x
+μ-loop table zone buf₀ at from p₀ x₀ buf p x = 6 - x
+
+head-start-requires : tie.Need-head-start-requires Inv-loop μ-loop
+head-start-requires c κs = search needs
 
 loop-holds : tie.Need-loop-holds Inv-loop μ-loop
-loop-holds c = let a = c .before .before .args in (omega arith, refl, tasks-put-none (a .table .now) (a .k) (a .buf .now) (a .at))
-
-mul-cell : tie.Need-mul-cell Inv-loop μ-loop
-mul-cell c = search needs
+loop-holds c = let a = c .before .before .before .args in (omega arith, refl, tasks-put-none (a .table .now) (a .zone - 1) (a .buf .now) (a .at))
 
 add-cell : tie.Need-add-cell Inv-loop μ-loop
 add-cell c = search needs
@@ -35,10 +35,11 @@ cell-requires c κs = search needs
 
 write-task-requires : tie.Need-write-task-requires Inv-loop μ-loop
 write-task-requires c κs =
-    let b = c .before .before .before .before .before .before in
+    let b = c .before .before .before .before .before .before .before in
     let a = b .args in
     let l = c .before .before .before .loop in
-    tasks-room (a .table .now) (a .k) (a .buf .now) (a .at) (l .buf) (l .p) (l .x) _ (c .before .cell .ensures) (l .inv .2) (l .inv .1) (omega arith) (b .pre .1)
+    let e = c .before .cell .ensures ∙ ap (λ (i : ℕ). getD (a .table .now) (i + 1 + l .x) 0) (c .before .before .before .before .head-start .ensures) in
+    tasks-room (a .table .now) (a .zone - 1) (a .buf .now) (a .at) (l .buf) (l .p) (l .x) _ e (l .inv .2) (l .inv .1) (omega arith) (b .pre .2)
 
 add-x : tie.Need-add-x Inv-loop μ-loop
 add-x c = search needs
@@ -48,16 +49,17 @@ loop-less c = search needs
 
 loop-again : tie.Need-loop-again Inv-loop μ-loop
 loop-again c =
-    let a = c .before .before .before .before .before .before .before .before .before .args in
+    let a = c .before .before .before .before .before .before .before .before .before .before .args in
     let l = c .before .before .before .before .before .before .loop in
+    let e = c .before .before .before .before .cell .ensures ∙ ap (λ (i : ℕ). getD (a .table .now) (i + 1 + l .x) 0) (c .before .before .before .before .before .before .before .head-start .ensures) in
     let w = c .before .before .write-task in
-    (omega arith, put-length _ _ _ _ _ (w .ensures) ∙ l .inv .1, tasks-put (a .table .now) (a .k) (a .buf .now) (a .at) (l .buf) _ (l .p) (w .result) (l .x) _ (c .before .before .before .before .cell .ensures) (l .inv .2) (w .ensures))
+    (omega arith, put-length _ _ _ _ _ (w .ensures) ∙ l .inv .1, tasks-put (a .table .now) (a .zone - 1) (a .buf .now) (a .at) (l .buf) _ (l .p) (w .result) (l .x) _ e (l .inv .2) (w .ensures))
 
 same-length : tie.Need-same-length Inv-loop μ-loop
 same-length c = c .before .loop .inv .1
 
 returns : tie.Need-returns Inv-loop μ-loop
-returns c = let a = c .before .before .before .before .args in let l = c .before .loop in tasks-put-all (a .table .now) (a .k) (a .buf .now) (a .at) (l .buf) (l .p) (l .x) (omega arith) (l .inv .2)
+returns c = let a = c .before .before .before .before .before .args in let l = c .before .loop in tasks-put-all (a .table .now) (a .zone - 1) (a .buf .now) (a .at) (l .buf) (l .p) (l .x) (omega arith) (l .inv .2)
 
 pub write-tasks-spec : {M : Type 1} → statement M
 write-tasks-spec =
@@ -65,8 +67,8 @@ write-tasks-spec =
     (tie.spec
     Inv-loop
     μ-loop
+    head-start-requires
     loop-holds
-    mul-cell
     add-cell
     add-cell-2
     cell-requires

@@ -1,7 +1,7 @@
--- `proposal::writing::write_text` meets its contract.
+-- `zone_text::writing::write_text` meets its contract.
 -- Assumes nothing.
 use Rattle.lines.proofs.Laws.Putting.{put-length}
-use Prim.Native.Nat.{_-_, _≤_}
+use Prim.Native.Nat.{_+_, _-_, _≤_}
 use mathlib.Core.Path.{_≡_, _∙_, refl}
 use lib.ListN.{length}
 use Rattle.lines.specs.Put.{Put}
@@ -21,15 +21,16 @@ abbrev μ-loop : tie.MeasureT-loop
 loop-holds : tie.Need-loop-holds Inv-loop μ-loop
 loop-holds c = let a = c .before .before .args in (omega arith, refl, zones-put-none (a .table .now) (a .buf .now))
 
+add-k : tie.Need-add-k Inv-loop μ-loop
+add-k c = search needs
+
 write-zone-requires : tie.Need-write-zone-requires Inv-loop μ-loop
 write-zone-requires c κs =
     let b = c .before .before .before .before .before in
     let a = b .args in
     let l = c .before .before .loop in
-    (omega arith, zones-room (a .table .now) (a .buf .now) (l .buf) (l .p) (l .k) (l .inv .2) (l .inv .1) (omega arith) (b .pre))
-
-add-k : tie.Need-add-k Inv-loop μ-loop
-add-k c = search needs
+    let e : l .k + 1 - 1 ≡ l .k = omega arith in
+    (omega arith, omega arith, rw e (zones-room (a .table .now) (a .buf .now) (l .buf) (l .p) (l .k) (l .inv .2) (l .inv .1) (omega arith) (b .pre)))
 
 loop-less : tie.Need-loop-less Inv-loop μ-loop
 loop-less c = search needs
@@ -39,16 +40,24 @@ loop-again c =
     let a = c .before .before .before .before .before .before .before .before .args in
     let l = c .before .before .before .before .before .loop in
     let w = c .before .before .write-zone in
-    (omega arith, put-length _ _ _ _ _ (w .ensures) ∙ l .inv .1, zones-put (a .table .now) (a .buf .now) (l .buf) _ (l .p) (w .result) (l .k) (l .inv .2) (w .ensures))
+    let e : l .k + 1 - 1 ≡ l .k = omega arith in
+    (omega arith, put-length _ _ _ _ _ (w .ensures) ∙ l .inv .1, zones-put (a .table .now) (a .buf .now) (l .buf) _ (l .p) (w .result) (l .k) (l .inv .2) (rw e at (w .ensures)))
 
 write-end-requires : tie.Need-write-end-requires Inv-loop μ-loop
-write-end-requires c κs = let b = c .before .before .before .before .before in let a = b .args in let l = c .before .before .loop in end-room (a .table .now) (a .buf .now) (l .buf) (l .p) (l .k) (l .inv .2) (l .inv .1) (omega arith) (b .pre)
+write-end-requires c κs =
+    let b = c .before .before .before .before .before in
+    let a = b .args in
+    let l = c .before .before .loop in
+    end-room (a .table .now) (a .buf .now) (l .buf) (l .p) (l .k) (l .inv .2) (l .inv .1) (omega arith) (b .pre)
 
 same-length : tie.Need-same-length Inv-loop μ-loop
 same-length c = put-length _ _ _ _ _ (c .before .before .write-end .ensures) ∙ c .before .before .before .before .before .loop .inv .1
 
 returns : tie.Need-returns Inv-loop μ-loop
-returns c = let a = c .before .before .before .before .before .before .before .before .args in let l = c .before .before .before .before .before .loop in end-put (a .table .now) (a .buf .now) (l .buf) _ (l .p) _ (l .k) (omega arith) (l .inv .2) (c .before .before .write-end .ensures)
+returns c =
+    let a = c .before .before .before .before .before .before .before .before .args in
+    let l = c .before .before .before .before .before .loop in
+    end-put (a .table .now) (a .buf .now) (l .buf) _ (l .p) _ (l .k) (omega arith) (l .inv .2) (c .before .before .write-end .ensures)
 
 pub write-text-spec : {M : Type 1} → statement M
 write-text-spec =
@@ -57,8 +66,8 @@ write-text-spec =
     Inv-loop
     μ-loop
     loop-holds
-    write-zone-requires
     add-k
+    write-zone-requires
     loop-less
     loop-again
     write-end-requires

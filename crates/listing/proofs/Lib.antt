@@ -1,3 +1,0 @@
-pub mod EdgeLaws
-pub mod FindLaws
-pub mod StepLaws

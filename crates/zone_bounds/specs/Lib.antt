@@ -1,0 +1,2 @@
+pub mod Narrowed
+pub mod Entries

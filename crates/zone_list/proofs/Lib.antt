@@ -1,0 +1,7 @@
+pub mod ChoiceLaws
+pub mod ChosenLaws
+pub mod FormLaws
+pub mod ShareLaws
+pub mod WalkLaws
+pub mod PlaceLaws
+pub mod ListedLaws

@@ -1,0 +1,4 @@
+pub mod Steps
+pub mod Chosen
+pub mod Counted
+pub mod Placed

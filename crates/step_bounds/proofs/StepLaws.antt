@@ -1,19 +1,18 @@
 -- An edge of the list of steps: its number, what it releases, and its bounds.
 -- Assumes nothing.
 use mathlib.Core.Path.{_≡_, refl, sym, _∙_, ap, ap₂, subst}
-use mathlib.Core.Bool.{Bool, true, false, cond}
-use mathlib.Core.List.{List, [], _∷_, _++_, map, append-nil, List·Memᴰ, List·Memᴰ·head, List·Memᴰ·tail, List·Memᴰ·not-nil, List·Memᴰ·append-cases, List·Memᴰ·eq-of-singleton}
-use mathlib.Core.Logic.{_⊎_, inl, inr}
-use mathlib.Core.Option.{none, some}
+use mathlib.Core.Bool.{Bool, true, false, cond, true≢false}
+use mathlib.Core.List.{List, [], _∷_, _++_, map, append-nil, List·Memᴰ, List·Memᴰ·eq-of-singleton}
+use mathlib.Core.Option.{Option, none, some}
 use Prim.Native.Nat.{ℕ, zero, suc, _+_, _-_, _≤_, _<_}
 use native.Mathlib.Omega.{arith}
 use native.Mathlib.Decide.{decLe}
-use lib.ListN.{length, getD, getElem?, take, length-map}
+use lib.ListN.{length, getD, take, length-map}
 use lib.Seq.{length-take-le}
 use Rattle.meaning.specs.Lists.{nth1, sameList}
 use Rattle.meaning.specs.Model.{Bound, Edge, Model, leavesAt, released}
 use Rattle.meaning.specs.Machine.Release.{overflowsAny}
-use Rattle.meaning.specs.Zones.Steps.{Step, goOn, finish, byEdge, choices, places, leavingBy, leaving}
+use Rattle.meaning.specs.Zones.Steps.{Step, byEdge, choices, places}
 use Rattle.meaning.specs.Zones.Reached.{Home}
 use Rattle.meaning.specs.Text.ModelTable.{decode, edges}
 use Rattle.meaning.specs.Text.Ranges.{queueMost}
@@ -22,18 +21,18 @@ use Rattle.meaning.specs.Inner.Bounds.{onlyIf}
 use Rattle.meaning.specs.Inner.Slots.{slotsOf}
 use Rattle.meaning.specs.Inner.Places.{positionBounds, releaseBounds}
 use Rattle.meaning.specs.Inner.StepBounds.{edgeBounds, stepBounds}
-use Rattle.meaning.proofs.Lists.{mem-map-inv}
 use Rattle.meaning.proofs.Hooks.{releases-room}
 use Rattle.meaning.proofs.Zones.Choices.{choices-length, places-over, places-free}
 use Rattle.model_table.specs.Right.{RightTable}
 use Rattle.model_table.specs.Parts.{guardOf, edgeOf}
-use Rattle.home.specs.Asked.{releasedIf, releasedBy}
+use Rattle.home.specs.Asked.{leavesIf, releasedIf, releasedBy}
 use Rattle.home.proofs.HomeLaws.{released-right}
 use Rattle.home.specs.declared.Home as M
 use Rattle.home.specs.declared.Releases.{Releases}
 use Rattle.home.specs.Stands.{orderOf, homeOf, tasksOf, Lists, RightHome}
 use Rattle.zone_list.specs.Steps.{aheadOf, listAt}
 use Rattle.zone_list.specs.declared.form.Step as L
+use Rattle.zone_list.proofs.ListedLaws.{listed-edge}
 use Rattle.bounds.specs.declared.tightening.Tight.{Tight}
 use Rattle.zone_bounds.specs.Narrowed.{Narrows}
 use Rattle.zone_bounds.proofs.NarrowLaws.{narrows-then}
@@ -48,60 +47,12 @@ pub record Leaving (m : Model) (h : Home) (k : ℕ) (ps : List ℕ) : Type 0 whe
   pub leaves : leavesAt edge (h .location) ≡ true
   pub place : List·Memᴰ ps (places m (released m edge) (h .order))
 
--- the same of the edges es, of which it is the one behind i others
-record LeavingAt (m : Model) (l : ℕ) (o : List ℕ) (es : List Edge) (i : ℕ) (ps : List ℕ) : Type 0 where
-  pub edge : Edge
-  pub is : getElem? es i ≡ some edge
-  pub leaves : leavesAt edge l ≡ true
-  pub place : List·Memᴰ ps (places m (released m edge) o)
-
-same-edge : (a b : ℕ) (ps qs : List ℕ) → byEdge a ps ≡ byEdge b qs → (a ≡ b) × (ps ≡ qs)
-same-edge a b ps qs e = (cc, cc)
-
-leaving-by : (m : Model) (l : ℕ) (o : List ℕ) (k : ℕ) (e : Edge) (n : ℕ) (ps : List ℕ) → List·Memᴰ (byEdge n ps) (leavingBy m l o k e)
-    → (n ≡ k) × (leavesAt e l ≡ true) × List·Memᴰ ps (places m (released m e) o)
-leaving-by m l o k e n ps h = go (leavesAt e l) h
-  where
-    go : (b : Bool) → List·Memᴰ (byEdge n ps) (cond b (map (byEdge k) (places m (released m e) o)) [])
-        → (n ≡ k) × (b ≡ true) × List·Memᴰ ps (places m (released m e) o)
-    go true w =
-        let r = mem-map-inv (byEdge k) (places m (released m e) o) w in
-        let q = same-edge n k ps (r .0) (r .2) in
-        (q .0, refl, subst (λ (x : List ℕ). List·Memᴰ x (places m (released m e) o)) (sym (q .1)) (r .1))
-    go false w = absurd (List·Memᴰ·not-nil w)
-
-leaving-of : (m : Model) (l : ℕ) (o : List ℕ) (k : ℕ) (es : List Edge) (n : ℕ) (ps : List ℕ) → List·Memᴰ (byEdge n ps) (leaving m l o k es)
-    → (i : ℕ) × (n ≡ k + i) × LeavingAt m l o es i ps
-leaving-of m l o k [] n ps h = absurd (List·Memᴰ·not-nil h)
-leaving-of m l o k (e ∷ es) n ps h = go (List·Memᴰ·append-cases (leavingBy m l o k e) h) (leaving-of m l o (suc k) es n ps)
-  where
-    go : List·Memᴰ (byEdge n ps) (leavingBy m l o k e) ⊎ List·Memᴰ (byEdge n ps) (leaving m l o (suc k) es)
-        → (List·Memᴰ (byEdge n ps) (leaving m l o (suc k) es) → (i : ℕ) × (n ≡ suc k + i) × LeavingAt m l o es i ps)
-        → (i : ℕ) × (n ≡ k + i) × LeavingAt m l o (e ∷ es) i ps
-    go (inl w) ih =
-        let r = leaving-by m l o k e n ps w in
-        (0, omega (arith, r .0), record { edge = e; is = refl; leaves = r .1; place = r .2 })
-    go (inr w) ih =
-        let r = ih w in
-        let q = r .2 in
-        (suc (r .0), omega (arith, r .1), record { edge = q .edge; is = q .is; leaves = q .leaves; place = q .place })
-
-edge-not-tick : (k : ℕ) (ps : List ℕ) → (byEdge k ps ≡ goOn) ⊎ (byEdge k ps ≡ finish) → ⊥
-edge-not-tick k ps (inl e) = let z : _≡_ {A = ℕ} 0 1 = cc in omega arith
-edge-not-tick k ps (inr e) = let z : _≡_ {A = ℕ} 0 1 = cc in omega arith
-
-edge-of : (m : Model) (h : Home) (k : ℕ) (ps : List ℕ) → List·Memᴰ (byEdge k ps) (listAt m h)
-    → List·Memᴰ (byEdge k ps) (leaving m (h .location) (h .order) 1 (m .edges))
-edge-of m h k ps (List·Memᴰ·head e) = absurd (edge-not-tick k ps (inl e))
-edge-of m h k ps (List·Memᴰ·tail (List·Memᴰ·head e)) = absurd (edge-not-tick k ps (inr e))
-edge-of m h k ps (List·Memᴰ·tail (List·Memᴰ·tail w)) = w
-
 pub listed-leaving : (m : Model) (h : Home) (k : ℕ) (ps : List ℕ) → List·Memᴰ (byEdge k ps) (listAt m h) → Leaving m h k ps
-listed-leaving m h k ps w =
-    let r = leaving-of m (h .location) (h .order) 1 (m .edges) k ps (edge-of m h k ps w) in
-    let q = r .2 in
-    let n : k ≡ suc (r .0) = omega (arith, r .1) in
-    record { edge = q .edge; is = ap (nth1 (m .edges)) n ∙ q .is; leaves = q .leaves; place = q .place }
+listed-leaving m h k ps w = go (nth1 (m .edges) k) refl (listed-edge m h k ps .0 w)
+  where
+    go : (x : Option Edge) → nth1 (m .edges) k ≡ x → (leavesIf x (h .location) ≡ true) × List·Memᴰ ps (places m (releasedIf m x) (h .order)) → Leaving m h k ps
+    go none e p = absurd (true≢false (sym (p .0)))
+    go (some d) e p = record { edge = d; is = e; leaves = p .0; place = p .1 }
 
 -- ---- its number, releases and bounds
 

@@ -4,6 +4,7 @@ use Prim.Native.Nat.{ℕ, zero, suc, _+_, _-_, _≤_, _<_}
 use mathlib.Core.Path.{_≡_, refl, sym, ap, _∙_, subst}
 use mathlib.Core.Bool.{Bool, true, false, not, cond, _&&_, _||_}
 use mathlib.Core.List.{List, [], _∷_, _++_, map}
+use mathlib.Core.Logic.{_⊎_, inl, inr, ⊎-elim}
 use mathlib.Core.Option.{Option, some}
 use native.Mathlib.Omega.{arith}
 use native.Mathlib.Numerals.{add-one}
@@ -128,9 +129,11 @@ module _ (m : Model) (h : Home) (t : List ℕ) (at x : ℕ) where
         ≡ (zeros && zerosFrom m (h .location) (h .order) (numbersIn t at (length (listAt m h))) many (drop k (m .edges)))
     pub later : many < x → nth1 (listAt m h) x ≡ getElem? (leaving m (h .location) (h .order) (suc k) (drop k (m .edges))) (x - many - 1)
     pub met : 3 ≤ x → x ≤ many → PlaceIs m h x (found .edge) (found .rest)
+    pub low : 2 ≤ many
+    pub none : (x ≤ 2) ⊎ (many < x) → (found .edge ≡ 0) × (found .rest ≡ 0)
 
-  pub walking-first : (n kept : ℕ) (b : Bool) (f : Found) → n ≡ length (h .order) → kept ≡ getD t (at + 1) 0 → b ≡ (true && (not (eqb n 0) || eqb (kept - 1) 0)) → Walking 2 b f 0
-  walking-first n kept b f e g q =
+  pub walking-first : (n kept : ℕ) (b : Bool) (f : Found) → (f .edge ≡ 0) × (f .rest ≡ 0) → n ≡ length (h .order) → kept ≡ getD t (at + 1) 0 → b ≡ (true && (not (eqb n 0) || eqb (kept - 1) 0)) → Walking 2 b f 0
+  walking-first n kept b f o e g q =
       let z = widest (h .location) (h .order) in
       let two : 1 < length (listAt m h) = omega (arith, steps-count m z) in
       let c : getD (numbersIn t at (length (listAt m h))) 1 0 ≡ kept - 1 = numbers-at t at (length (listAt m h)) 1 two ∙ ap (λ (y : ℕ). y - 1) (sym g) in
@@ -139,6 +142,8 @@ module _ (m : Model) (h : Home) (t : List ℕ) (at x : ℕ) where
         holds = zeros-count m z (numbersIn t at (length (listAt m h))) ∙ rw (empty-is (h .order), sym e, c, q);
         later = third _ _ _ x;
         met = λ a d. absurd (omega arith);
+        low = omega arith;
+        none = λ _. o;
       }
 
   module _ (many k : ℕ) (zeros : Bool) (found : Found) (w : Walking many zeros found k) where
@@ -206,9 +211,14 @@ module _ (m : Model) (h : Home) (t : List ℕ) (at x : ℕ) where
           go (yes l) = subst (λ (y : Found). PlaceIs m h x (y .edge) (y .rest)) (sym (q .before l)) (w .met a l)
           go (no l) = subst (λ (y : Found). PlaceIs m h x (y .edge) (y .rest)) (sym (q .here (omega arith) b)) (more-here (omega arith) b)
 
+      more-none : (f : Found) → FoundBy found (suc k) many (r .places) x f → (x ≤ 2) ⊎ (many + r .places < x) → (f .edge ≡ 0) × (f .rest ≡ 0)
+      more-none f q (inl l) =
+          subst (λ (y : Found). (y .edge ≡ 0) × (y .rest ≡ 0)) (sym (q .before (omega (arith, w .low)))) (w .none (inl l))
+      more-none f q (inr l) = subst (λ (y : Found). (y .edge ≡ 0) × (y .rest ≡ 0)) (sym (q .behind l)) (w .none (inr (omega arith)))
+
       pub walking-more : (kept : ℕ) (b : Bool) (f : Found) → kept ≡ getD t (at + many) 0 → b ≡ (zeros && (not (r .zero) || eqb (kept - 1) 0))
           → FoundBy found (suc k) many (r .places) x f → Walking (many + r .places) b f (suc k)
-      walking-more kept b f g q o = record { places = left-places; holds = more-holds kept b g q; later = more-later; met = more-met f o }
+      walking-more kept b f g q o = record { places = left-places; holds = more-holds kept b g q; later = more-later; met = more-met f o; low = omega (arith, w .low); none = more-none f o }
 
     pub walking-last : length (m .edges) ≤ k → WalkIs m h t at x (record { many = many; zeros = zeros; edge = found .edge; rest = found .rest })
     unfolding placesFrom zerosFrom
@@ -219,6 +229,7 @@ module _ (m : Model) (h : Home) (t : List ℕ) (at x : ℕ) where
           many = omega arith;
           zeros = sym (w .holds ∙ rw d (and-one zeros));
           place = λ a b. w .met a (omega arith);
+          none = λ a. w .none (⊎-elim inl (λ b. inr (omega arith)) a);
         }
 
 -- the same over a model's table: one edge more

@@ -3,6 +3,7 @@
 use mathlib.Core.Path.{_≡_}
 use mathlib.Core.Bool.{Bool, true, false, cond}
 use mathlib.Core.List.{List, map}
+use mathlib.Core.Logic.{_⊎_}
 use Prim.Native.Nat.{ℕ, _+_, _-_, _≤_, _<_}
 use lib.ListN.{length, getElem?}
 use Rattle.meaning.specs.Lists.{nth1}
@@ -51,6 +52,7 @@ pub record WalkIs (m : Model) (h : Home) (t : List ℕ) (at x : ℕ) (r : Walked
   pub many : r .many ≡ length (listAt m h)
   pub zeros : r .zeros ≡ zerosKept m h t at
   pub place : 3 ≤ x → x ≤ length (listAt m h) → PlaceIs m h x (r .edge) (r .rest)
+  pub none : (x ≤ 2) ⊎ (length (listAt m h) < x) → (r .edge ≡ 0) × (r .rest ≡ 0)
 
 -- the first two of them
 pub record StepsAre (m : Model) (h : Home) (t : List ℕ) (at : ℕ) (r : Steps) : Type 0 where

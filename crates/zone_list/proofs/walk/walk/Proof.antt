@@ -1,7 +1,7 @@
 -- `zone_list::walk::walk` meets its contract.
 -- Assumes nothing.
 use Prim.Native.Nat.{_-_, _≤_}
-use mathlib.Core.Path.{_≡_, sym}
+use mathlib.Core.Path.{_≡_, sym, refl}
 use lib.ListN.{length}
 use lib.Seq.{length-take-le}
 use Rattle.meaning.specs.Text.ModelTable.{decode}
@@ -43,7 +43,7 @@ loop-holds c =
     let a = s .args in
     let six : length (a .home .tasks) ≡ 6 = search needs in
     let n = length-take-le (a .home .count) (a .home .tasks) (omega (arith, s .pre .1 .0 .few)) in
-    (omega arith, omega arith, walking-first (decode (a .model .now)) (homeOf (a .home)) (a .claims .now) (a .at) (a .x) _ _ _ _ (sym n) (c .before .cell .ensures) (c .held .ensures))
+    (omega arith, omega arith, walking-first (decode (a .model .now)) (homeOf (a .home)) (a .claims .now) (a .at) (a .x) _ _ _ _ (refl, refl) (sym n) (c .before .cell .ensures) (c .held .ensures))
 
 add-k : tie.Need-add-k Inv-loop μ-loop
 add-k c = search needs

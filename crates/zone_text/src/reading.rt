@@ -68,12 +68,12 @@ fn read_records(model: &[u32], s: &[u8], t: &mut [u32]) -> Read
 }
 
 // The proposal's text into the table, over a right model's table.
-pub(crate) fn read_given(model: &[u32], text: &[u8], table: &mut [u32]) -> Read
+pub(crate) fn read_given(model: &[u32], text: &[u8], zones: &mut [u32]) -> Read
     requires { ⌜ RightTable (now model) ⌝ }
-    ensures { λ r. ⌜ Answered (length (now (table .entry))) (readProposal true (decode (now (model .entry))) (length (now (table .entry))) (now (text .entry))) r (now (table .exit)) ⌝ }
+    ensures { λ r. ⌜ Answered (length (now (zones .entry))) (readProposal true (decode (now (model .entry))) (length (now (zones .entry))) (now (text .entry))) r (now (zones .exit)) ⌝ }
 {
-    clear(table);
-    if table.len() != SIZE {
+    clear(zones);
+    if zones.len() != SIZE {
         return Read::Refused(11, 0);
     }
     if TEXT_MOST < text.len() {
@@ -83,16 +83,16 @@ pub(crate) fn read_given(model: &[u32], text: &[u8], table: &mut [u32]) -> Read
     if p < text.len() {
         return Read::Refused(2, p);
     }
-    read_records(model, text, table)
+    read_records(model, text, zones)
 }
 
 // The proposal's text into the table, over the model's table.
-pub fn read_proposal(model: &[u32], text: &[u8], table: &mut [u32]) -> Read
-    ensures { λ r. ⌜ ReadOver (now (model .entry)) (now (text .entry)) (now (table .entry)) r (now (table .exit)) ⌝ }
+pub fn read_proposal(model: &[u32], text: &[u8], zones: &mut [u32]) -> Read
+    ensures { λ r. ⌜ ReadOver (now (model .entry)) (now (text .entry)) (now (zones .entry)) r (now (zones .exit)) ⌝ }
 {
     if !model_text::is_model(model) {
-        clear(table);
+        clear(zones);
         return Read::Refused(13, 0);
     }
-    read_given(model, text, table)
+    read_given(model, text, zones)
 }

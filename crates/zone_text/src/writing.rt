@@ -77,29 +77,29 @@ fn write_task(v: u32, buf: &mut [u8], at: usize) -> usize
 }
 
 // The fields of a zone's tasks.
-fn write_tasks(table: &[u32], zone: u32, buf: &mut [u8], at: usize) -> usize
-    requires { ⌜ (1 ≤ zone) × (zone ≤ 48) × (at + length (texts fieldText (orderIn (now table) (zone - 1))) ≤ length (now buf)) ⌝ }
-    ensures { λ r. ⌜ Put (now (buf .entry)) at (texts fieldText (orderIn (now (table .entry)) (zone - 1))) (now (buf .exit)) r ⌝ }
+fn write_tasks(zones: &[u32], zone: u32, buf: &mut [u8], at: usize) -> usize
+    requires { ⌜ (1 ≤ zone) × (zone ≤ 48) × (at + length (texts fieldText (orderIn (now zones) (zone - 1))) ≤ length (now buf)) ⌝ }
+    ensures { λ r. ⌜ Put (now (buf .entry)) at (texts fieldText (orderIn (now (zones .entry)) (zone - 1))) (now (buf .exit)) r ⌝ }
 {
     let from = head_start(zone);
     let mut p = at;
     let mut x: usize = 0;
     while x < 6 {
-        p = write_task(cell(table, from + 1 + x), buf, p);
+        p = write_task(cell(zones, from + 1 + x), buf, p);
         x += 1;
     }
     p
 }
 
 // The line of a zone's location and tasks.
-fn write_order(table: &[u32], zone: u32, buf: &mut [u8], at: usize) -> usize
-    requires { ⌜ (1 ≤ zone) × (zone ≤ 48) × (at + length (orderText (getD (now table) (zoneSlot (zone - 1)) 0 - 1) (orderIn (now table) (zone - 1))) ≤ length (now buf)) ⌝ }
-    ensures { λ r. ⌜ Put (now (buf .entry)) at (orderText (getD (now (table .entry)) (zoneSlot (zone - 1)) 0 - 1) (orderIn (now (table .entry)) (zone - 1))) (now (buf .exit)) r ⌝ }
+fn write_order(zones: &[u32], zone: u32, buf: &mut [u8], at: usize) -> usize
+    requires { ⌜ (1 ≤ zone) × (zone ≤ 48) × (at + length (orderText (getD (now zones) (zoneSlot (zone - 1)) 0 - 1) (orderIn (now zones) (zone - 1))) ≤ length (now buf)) ⌝ }
+    ensures { λ r. ⌜ Put (now (buf .entry)) at (orderText (getD (now (zones .entry)) (zoneSlot (zone - 1)) 0 - 1) (orderIn (now (zones .entry)) (zone - 1))) (now (buf .exit)) r ⌝ }
 {
-    let l = less_one(cell(table, head_start(zone)));
+    let l = less_one(cell(zones, head_start(zone)));
     let p = write_mark(buf, at, 90, 78);
     let q = lines::write_field(buf, p, 0, l);
-    let r = write_tasks(table, zone, buf, q);
+    let r = write_tasks(zones, zone, buf, q);
     write_feed(buf, r)
 }
 
@@ -118,15 +118,15 @@ fn write_bound(i: u32, j: u32, v: u32, buf: &mut [u8], at: usize) -> usize
 }
 
 // The lines of a zone's bounds.
-fn write_bounds(table: &[u32], zone: u32, buf: &mut [u8], at: usize) -> usize
-    requires { ⌜ (1 ≤ zone) × (zone ≤ 48) × (at + length (texts boundText (boundsIn (now table) (zone - 1))) ≤ length (now buf)) ⌝ }
-    ensures { λ r. ⌜ Put (now (buf .entry)) at (texts boundText (boundsIn (now (table .entry)) (zone - 1))) (now (buf .exit)) r ⌝ }
+fn write_bounds(zones: &[u32], zone: u32, buf: &mut [u8], at: usize) -> usize
+    requires { ⌜ (1 ≤ zone) × (zone ≤ 48) × (at + length (texts boundText (boundsIn (now zones) (zone - 1))) ≤ length (now buf)) ⌝ }
+    ensures { λ r. ⌜ Put (now (buf .entry)) at (texts boundText (boundsIn (now (zones .entry)) (zone - 1))) (now (buf .exit)) r ⌝ }
 {
     let from = bounds_start(zone);
     let mut p = at;
     let mut x: usize = 0;
     while x < 289 {
-        let v = cell(table, from + x);
+        let v = cell(zones, from + x);
         p = write_bound((x / 17) as u32, (x % 17) as u32, v, buf, p);
         x += 1;
     }
@@ -134,14 +134,14 @@ fn write_bounds(table: &[u32], zone: u32, buf: &mut [u8], at: usize) -> usize
 }
 
 // The fields of n claims that stand in the pool from `from` on.
-fn write_numbers(table: &[u32], from: u32, n: u32, buf: &mut [u8], at: usize) -> usize
-    requires { ⌜ at + length (texts fieldText (map (λ (x : ℕ). x - 1) (words (now table) (poolStart + from) n))) ≤ length (now buf) ⌝ }
-    ensures { λ r. ⌜ Put (now (buf .entry)) at (texts fieldText (map (λ (x : ℕ). x - 1) (words (now (table .entry)) (poolStart + from) n))) (now (buf .exit)) r ⌝ }
+fn write_numbers(zones: &[u32], from: u32, n: u32, buf: &mut [u8], at: usize) -> usize
+    requires { ⌜ at + length (texts fieldText (map (λ (x : ℕ). x - 1) (words (now zones) (poolStart + from) n))) ≤ length (now buf) ⌝ }
+    ensures { λ r. ⌜ Put (now (buf .entry)) at (texts fieldText (map (λ (x : ℕ). x - 1) (words (now (zones .entry)) (poolStart + from) n))) (now (buf .exit)) r ⌝ }
 {
     let mut p = at;
     let mut x: u32 = 0;
     while x < n {
-        let v = less_one(cell(table, POOL_START + (from as usize) + (x as usize)));
+        let v = less_one(cell(zones, POOL_START + (from as usize) + (x as usize)));
         p = lines::write_field(buf, p, 0, v);
         x += 1;
     }
@@ -149,65 +149,65 @@ fn write_numbers(table: &[u32], from: u32, n: u32, buf: &mut [u8], at: usize) ->
 }
 
 // The line of these claims.
-fn write_claims(table: &[u32], from: u32, n: u32, buf: &mut [u8], at: usize) -> usize
-    requires { ⌜ at + length (claimsText (map (λ (x : ℕ). x - 1) (words (now table) (poolStart + from) n))) ≤ length (now buf) ⌝ }
-    ensures { λ r. ⌜ Put (now (buf .entry)) at (claimsText (map (λ (x : ℕ). x - 1) (words (now (table .entry)) (poolStart + from) n))) (now (buf .exit)) r ⌝ }
+fn write_claims(zones: &[u32], from: u32, n: u32, buf: &mut [u8], at: usize) -> usize
+    requires { ⌜ at + length (claimsText (map (λ (x : ℕ). x - 1) (words (now zones) (poolStart + from) n))) ≤ length (now buf) ⌝ }
+    ensures { λ r. ⌜ Put (now (buf .entry)) at (claimsText (map (λ (x : ℕ). x - 1) (words (now (zones .entry)) (poolStart + from) n))) (now (buf .exit)) r ⌝ }
 {
     let p = write_mark(buf, at, 71, 79);
-    let q = write_numbers(table, from, n, buf, p);
+    let q = write_numbers(zones, from, n, buf, p);
     write_feed(buf, q)
 }
 
 // The lines of a zone, where there is one.
-fn write_zone(table: &[u32], zone: u32, buf: &mut [u8], at: usize) -> usize
-    requires { ⌜ (1 ≤ zone) × (zone ≤ 48) × (at + length (pick (there (now table) (zoneSlot (zone - 1))) (zoneText (zoneIn (now table) (zone - 1))) []) ≤ length (now buf)) ⌝ }
-    ensures { λ r. ⌜ Put (now (buf .entry)) at (pick (there (now (table .entry)) (zoneSlot (zone - 1))) (zoneText (zoneIn (now (table .entry)) (zone - 1))) []) (now (buf .exit)) r ⌝ }
+fn write_zone(zones: &[u32], zone: u32, buf: &mut [u8], at: usize) -> usize
+    requires { ⌜ (1 ≤ zone) × (zone ≤ 48) × (at + length (pick (there (now zones) (zoneSlot (zone - 1))) (zoneText (zoneIn (now zones) (zone - 1))) []) ≤ length (now buf)) ⌝ }
+    ensures { λ r. ⌜ Put (now (buf .entry)) at (pick (there (now (zones .entry)) (zoneSlot (zone - 1))) (zoneText (zoneIn (now (zones .entry)) (zone - 1))) []) (now (buf .exit)) r ⌝ }
 {
-    if cell(table, head_start(zone)) == 0 {
+    if cell(zones, head_start(zone)) == 0 {
         return at;
     }
-    let from = claims_start(table, zone);
-    let n = claims(table, zone);
-    let p = write_order(table, zone, buf, at);
-    let q = write_bounds(table, zone, buf, p);
-    write_claims(table, from, n, buf, q)
+    let from = claims_start(zones, zone);
+    let n = claims(zones, zone);
+    let p = write_order(zones, zone, buf, at);
+    let q = write_bounds(zones, zone, buf, p);
+    write_claims(zones, from, n, buf, q)
 }
 
 // The whole text.
-fn write_text(table: &[u32], buf: &mut [u8]) -> usize
-    requires { ⌜ length (proposalText (decode (now table))) ≤ length (now buf) ⌝ }
-    ensures { λ r. ⌜ Put (now (buf .entry)) 0 (proposalText (decode (now (table .entry)))) (now (buf .exit)) r ⌝ }
+fn write_text(zones: &[u32], buf: &mut [u8]) -> usize
+    requires { ⌜ length (proposalText (decode (now zones))) ≤ length (now buf) ⌝ }
+    ensures { λ r. ⌜ Put (now (buf .entry)) 0 (proposalText (decode (now (zones .entry)))) (now (buf .exit)) r ⌝ }
 {
     let mut p: usize = 0;
     let mut k: u32 = 0;
     while k < 48 {
         k += 1;
-        p = write_zone(table, k, buf, p);
+        p = write_zone(zones, k, buf, p);
     }
     write_end(buf, p)
 }
 
 // The text of the proposal's table into the buffer, over a right model's table.
-fn write_over(model: &[u32], table: &[u32], buffer: &mut [u8]) -> Written
+fn write_over(model: &[u32], zones: &[u32], buffer: &mut [u8]) -> Written
     requires { ⌜ RightTable (now model) ⌝ }
-    ensures { λ r. ⌜ WroteOver (parts.decode (now (model .entry))) (now (table .entry)) (now (buffer .entry)) r (now (buffer .exit)) ⌝ }
+    ensures { λ r. ⌜ WroteOver (parts.decode (now (model .entry))) (now (zones .entry)) (now (buffer .entry)) r (now (buffer .exit)) ⌝ }
 {
-    if !is_proposal(model, table) {
+    if !is_proposal(model, zones) {
         return Written::Refused(13, 0);
     }
-    if buffer.len() < text_length(table) {
+    if buffer.len() < text_length(zones) {
         return Written::Refused(11, 0);
     }
-    let n = write_text(table, buffer);
+    let n = write_text(zones, buffer);
     Written::Done(n)
 }
 
 // The text of the proposal's table into the buffer.
-pub fn write_proposal(model: &[u32], table: &[u32], buffer: &mut [u8]) -> Written
-    ensures { λ r. ⌜ WroteProposal (now (model .entry)) (now (table .entry)) (now (buffer .entry)) r (now (buffer .exit)) ⌝ }
+pub fn write_proposal(model: &[u32], zones: &[u32], buffer: &mut [u8]) -> Written
+    ensures { λ r. ⌜ WroteProposal (now (model .entry)) (now (zones .entry)) (now (buffer .entry)) r (now (buffer .exit)) ⌝ }
 {
     if !is_model(model) {
         return Written::Refused(13, 0);
     }
-    write_over(model, table, buffer)
+    write_over(model, zones, buffer)
 }

@@ -31,7 +31,7 @@ returns-2 : tie.Need-returns-2
 returns-2 c =
     let a = c .before .before .before .before .before .before .before .before .before .args in
     let w = c .before .before .before .before .clear in
-    let n : length (a .table .now) ≡ size = sym (w .kept .0) ∙ c .before .if1 .left in
+    let n : length (a .zones .now) ≡ size = sym (w .kept .0) ∙ c .before .if1 .left in
     answered-refused _ _ _ 1 textMost (read-long (decode (a .model .now)) _ (a .text .now) n (c .if2 .taken)) (w .ensures)
 
 first-stop-requires : tie.Need-first-stop-requires
@@ -44,7 +44,7 @@ returns-3 : tie.Need-returns-3
 returns-3 c =
     let a = c .before .before .before .before .before .before .before .before .before .before .before .args in
     let w = c .before .before .before .before .before .before .clear in
-    let n : length (a .table .now) ≡ size = sym (w .kept .0) ∙ c .before .before .before .if1 .left in
+    let n : length (a .zones .now) ≡ size = sym (w .kept .0) ∙ c .before .before .before .if1 .left in
     answered-refused _ _ _ 2 _ (read-stop (decode (a .model .now)) _ (a .text .now) _ n (c .before .before .if2 .left) (c .before .first-stop .ensures) (c .if3 .taken)) (w .ensures)
 
 read-records-requires : tie.Need-read-records-requires
@@ -52,7 +52,7 @@ read-records-requires c κs =
     let a = c .before .before .before .before .before .before .before .before .before .before .before .before .args in
     let w = c .before .before .before .before .before .before .before .clear in
     let k = w .kept .0 in
-    let n : length (a .table .now) ≡ size = sym k ∙ c .before .before .before .before .if1 .left in
+    let n : length (a .zones .now) ≡ size = sym k ∙ c .before .before .before .before .if1 .left in
     (c .before .before .before .before .before .before .before .before .before .before .before .before .pre, k ∙ n, w .ensures ∙ ap (λ (x : ℕ). replicate x 0) (sym k), c .before .before .before .if2 .left)
 
 same-length-4 : tie.Need-same-length-4
@@ -62,7 +62,7 @@ returns-4 : tie.Need-returns-4
 returns-4 c =
     let a = c .before .before .before .before .before .before .before .before .before .before .before .before .before .before .before .args in
     let w = c .before .before .before .before .before .before .before .before .before .before .clear in
-    let n : length (a .table .now) ≡ size = sym (w .kept .0) ∙ c .before .before .before .before .before .before .before .if1 .left in
+    let n : length (a .zones .now) ≡ size = sym (w .kept .0) ∙ c .before .before .before .before .before .before .before .if1 .left in
     let e = read-rest (decode (a .model .now)) _ (a .text .now) _ n (c .before .before .before .before .before .before .if2 .left) (c .before .before .before .before .before .first-stop .ensures) (c .before .before .before .before .if3 .left) in
     answered-as _ _ _ _ _ _ n e (c .before .before .read-records .ensures)
 

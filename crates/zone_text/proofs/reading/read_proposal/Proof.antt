@@ -22,7 +22,7 @@ returns : tie.Need-returns
 returns c =
     let a = c .before .before .before .before .before .before .before .before .before .args in
     let n = c .before .before .before .before .before .is-model .ensures .no (not-true _ (c .before .before .before .before .if1 .taken)) in
-    record { over = λ g. absurd (n g); none = λ _. answered-refused _ _ _ 13 0 (read-no-model (decode (a .model .now)) (length (a .table .now)) (a .text .now)) (c .before .before .clear .ensures) }
+    record { over = λ g. absurd (n g); none = λ _. answered-refused _ _ _ 13 0 (read-no-model (decode (a .model .now)) (length (a .zones .now)) (a .text .now)) (c .before .before .clear .ensures) }
 
 read-given-requires : tie.Need-read-given-requires
 read-given-requires c κs = given-table _ (c .before .before .is-model .ensures .yes (not-false _ (c .before .if1 .left)))

@@ -19,7 +19,7 @@ abbrev μ-loop : tie.MeasureT-loop
 μ-loop table from n buf₀ at p₀ x₀ buf p x = n - x
 
 loop-holds : tie.Need-loop-holds Inv-loop μ-loop
-loop-holds c = let a = c .before .before .args in (omega arith, refl, claims-put-none (a .table .now) (a .from) (a .buf .now) (a .at))
+loop-holds c = let a = c .before .before .args in (omega arith, refl, claims-put-none (a .zones .now) (a .from) (a .buf .now) (a .at))
 
 add-cell : tie.Need-add-cell Inv-loop μ-loop
 add-cell c = search needs
@@ -41,7 +41,7 @@ write-field-requires c κs =
     let b = c .before .before .before .before .before .before .before in
     let a = b .args in
     let l = c .before .before .before .before .loop in
-    claims-room (a .table .now) (a .from) (a .n) (a .buf .now) (a .at) (l .buf) (l .p) (l .x) _ _ (c .before .less-one .ensures) (c .before .before .cell .ensures) (l .inv .2) (l .inv .1) (omega arith) (b .pre)
+    claims-room (a .zones .now) (a .from) (a .n) (a .buf .now) (a .at) (l .buf) (l .p) (l .x) _ _ (c .before .less-one .ensures) (c .before .before .cell .ensures) (l .inv .2) (l .inv .1) (omega arith) (b .pre)
 
 add-x : tie.Need-add-x Inv-loop μ-loop
 add-x c = search needs
@@ -54,13 +54,13 @@ loop-again c =
     let a = c .before .before .before .before .before .before .before .before .before .before .args in
     let l = c .before .before .before .before .before .before .before .loop in
     let w = c .before .before .write-field in
-    (omega arith, put-length _ _ _ _ _ (w .ensures) ∙ l .inv .1, claims-put (a .table .now) (a .from) (a .buf .now) (a .at) (l .buf) _ (l .p) (w .result) (l .x) _ _ (c .before .before .before .before .less-one .ensures) (c .before .before .before .before .before .cell .ensures) (l .inv .2) (w .ensures))
+    (omega arith, put-length _ _ _ _ _ (w .ensures) ∙ l .inv .1, claims-put (a .zones .now) (a .from) (a .buf .now) (a .at) (l .buf) _ (l .p) (w .result) (l .x) _ _ (c .before .before .before .before .less-one .ensures) (c .before .before .before .before .before .cell .ensures) (l .inv .2) (w .ensures))
 
 same-length : tie.Need-same-length Inv-loop μ-loop
 same-length c = c .before .loop .inv .1
 
 returns : tie.Need-returns Inv-loop μ-loop
-returns c = let a = c .before .before .before .before .args in let l = c .before .loop in claims-put-all (a .table .now) (a .from) (a .n) (a .buf .now) (a .at) (l .buf) (l .p) (l .x) (omega arith) (l .inv .2)
+returns c = let a = c .before .before .before .before .args in let l = c .before .loop in claims-put-all (a .zones .now) (a .from) (a .n) (a .buf .now) (a .at) (l .buf) (l .p) (l .x) (omega arith) (l .inv .2)
 
 pub write-numbers-spec : {M : Type 1} → statement M
 write-numbers-spec =

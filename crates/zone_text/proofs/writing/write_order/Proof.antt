@@ -23,8 +23,8 @@ write-mark-requires : tie.Need-write-mark-requires
 write-mark-requires c κs =
     let b = c .before .before .before .before .before .before in
     let a = b .args in
-    let o = orderIn (a .table .now) (a .zone - 1) in
-    let e = c .before .less-one .ensures ∙ ap (λ (v : ℕ). v - 1) (c .before .before .cell .ensures ∙ ap (λ (i : ℕ). getD (a .table .now) i 0) (c .before .before .before .head-start .ensures)) in
+    let o = orderIn (a .zones .now) (a .zone - 1) in
+    let e = c .before .less-one .ensures ∙ ap (λ (v : ℕ). v - 1) (c .before .before .cell .ensures ∙ ap (λ (i : ℕ). getD (a .zones .now) i 0) (c .before .before .before .head-start .ensures)) in
     let h = subst (λ (v : ℕ). a .at + length (orderText v o) ≤ length (a .buf .now)) (sym e) (b .pre .2) in
     order-mark (a .buf .now) (a .at) (c .before .less-one .result) o h
 
@@ -32,8 +32,8 @@ write-field-requires : tie.Need-write-field-requires
 write-field-requires c κs =
     let b = c .before .before .before .before .before .before .before .before .before .before in
     let a = b .args in
-    let o = orderIn (a .table .now) (a .zone - 1) in
-    let e = c .before .before .before .before .before .less-one .ensures ∙ ap (λ (v : ℕ). v - 1) (c .before .before .before .before .before .before .cell .ensures ∙ ap (λ (i : ℕ). getD (a .table .now) i 0) (c .before .before .before .before .before .before .before .head-start .ensures)) in
+    let o = orderIn (a .zones .now) (a .zone - 1) in
+    let e = c .before .before .before .before .before .less-one .ensures ∙ ap (λ (v : ℕ). v - 1) (c .before .before .before .before .before .before .cell .ensures ∙ ap (λ (i : ℕ). getD (a .zones .now) i 0) (c .before .before .before .before .before .before .before .head-start .ensures)) in
     let h = subst (λ (v : ℕ). a .at + length (orderText v o) ≤ length (a .buf .now)) (sym e) (b .pre .2) in
     order-field (a .buf .now) (a .at) (c .before .before .before .before .before .less-one .result) o h _ _ (c .before .before .before .write-mark .ensures)
 
@@ -41,8 +41,8 @@ write-tasks-requires : tie.Need-write-tasks-requires
 write-tasks-requires c κs =
     let b = c .before .before .before .before .before .before .before .before .before .before .before .before .before .before in
     let a = b .args in
-    let o = orderIn (a .table .now) (a .zone - 1) in
-    let e = c .before .before .before .before .before .before .before .before .before .less-one .ensures ∙ ap (λ (v : ℕ). v - 1) (c .before .before .before .before .before .before .before .before .before .before .cell .ensures ∙ ap (λ (i : ℕ). getD (a .table .now) i 0) (c .before .before .before .before .before .before .before .before .before .before .before .head-start .ensures)) in
+    let o = orderIn (a .zones .now) (a .zone - 1) in
+    let e = c .before .before .before .before .before .before .before .before .before .less-one .ensures ∙ ap (λ (v : ℕ). v - 1) (c .before .before .before .before .before .before .before .before .before .before .cell .ensures ∙ ap (λ (i : ℕ). getD (a .zones .now) i 0) (c .before .before .before .before .before .before .before .before .before .before .before .head-start .ensures)) in
     let h = subst (λ (v : ℕ). a .at + length (orderText v o) ≤ length (a .buf .now)) (sym e) (b .pre .2) in
     (b .pre .0, b .pre .1, order-tasks (a .buf .now) (a .at) (c .before .before .before .before .before .before .before .before .before .less-one .result) o h _ _ (c .before .before .before .before .before .before .before .write-mark .ensures) _ _ (c .before .before .before .write-field .ensures))
 
@@ -50,8 +50,8 @@ write-feed-requires : tie.Need-write-feed-requires
 write-feed-requires c κs =
     let b = c .before .before .before .before .before .before .before .before .before .before .before .before .before .before .before .before .before .before in
     let a = b .args in
-    let o = orderIn (a .table .now) (a .zone - 1) in
-    let e = c .before .before .before .before .before .before .before .before .before .before .before .before .before .less-one .ensures ∙ ap (λ (v : ℕ). v - 1) (c .before .before .before .before .before .before .before .before .before .before .before .before .before .before .cell .ensures ∙ ap (λ (i : ℕ). getD (a .table .now) i 0) (c .before .before .before .before .before .before .before .before .before .before .before .before .before .before .before .head-start .ensures)) in
+    let o = orderIn (a .zones .now) (a .zone - 1) in
+    let e = c .before .before .before .before .before .before .before .before .before .before .before .before .before .less-one .ensures ∙ ap (λ (v : ℕ). v - 1) (c .before .before .before .before .before .before .before .before .before .before .before .before .before .before .cell .ensures ∙ ap (λ (i : ℕ). getD (a .zones .now) i 0) (c .before .before .before .before .before .before .before .before .before .before .before .before .before .before .before .head-start .ensures)) in
     let h = subst (λ (v : ℕ). a .at + length (orderText v o) ≤ length (a .buf .now)) (sym e) (b .pre .2) in
     order-feed (a .buf .now) (a .at) (c .before .before .before .before .before .before .before .before .before .before .before .before .before .less-one .result) o h _ _ (c .before .before .before .before .before .before .before .before .before .before .before .write-mark .ensures) _ _ (c .before .before .before .before .before .before .before .write-field .ensures) _ _ (c .before .before .before .write-tasks .ensures)
 
@@ -62,8 +62,8 @@ returns : tie.Need-returns
 returns c =
     let b = c .before .before .before .before .before .before .before .before .before .before .before .before .before .before .before .before .before .before .before .before .before in
     let a = b .args in
-    let o = orderIn (a .table .now) (a .zone - 1) in
-    let e = c .before .before .before .before .before .before .before .before .before .before .before .before .before .before .before .before .less-one .ensures ∙ ap (λ (v : ℕ). v - 1) (c .before .before .before .before .before .before .before .before .before .before .before .before .before .before .before .before .before .cell .ensures ∙ ap (λ (i : ℕ). getD (a .table .now) i 0) (c .before .before .before .before .before .before .before .before .before .before .before .before .before .before .before .before .before .before .head-start .ensures)) in
+    let o = orderIn (a .zones .now) (a .zone - 1) in
+    let e = c .before .before .before .before .before .before .before .before .before .before .before .before .before .before .before .before .less-one .ensures ∙ ap (λ (v : ℕ). v - 1) (c .before .before .before .before .before .before .before .before .before .before .before .before .before .before .before .before .before .cell .ensures ∙ ap (λ (i : ℕ). getD (a .zones .now) i 0) (c .before .before .before .before .before .before .before .before .before .before .before .before .before .before .before .before .before .before .head-start .ensures)) in
     let h = subst (λ (v : ℕ). a .at + length (orderText v o) ≤ length (a .buf .now)) (sym e) (b .pre .2) in
     put-as _ _ (ap (λ (v : ℕ). orderText v o) e) (order-put (a .buf .now) (a .at) (c .before .before .before .before .before .before .before .before .before .before .before .before .before .before .before .before .less-one .result) o h _ _ (c .before .before .before .before .before .before .before .before .before .before .before .before .before .before .write-mark .ensures) _ _ (c .before .before .before .before .before .before .before .before .before .before .write-field .ensures) _ _ (c .before .before .before .before .before .before .write-tasks .ensures) _ _ (c .before .before .write-feed .ensures))
 

@@ -11,7 +11,7 @@ is-model-requires : tie.Need-is-model-requires
 is-model-requires c κs = search needs
 
 returns : tie.Need-returns
-returns c = let a = c .before .before .before .before .before .args in wrote-none (a .model .now) (a .table .now) (a .buffer .now) (λ g. c .before .is-model .ensures .no (not-true _ (c .if1 .taken)) (g .model))
+returns c = let a = c .before .before .before .before .before .args in wrote-none (a .model .now) (a .zones .now) (a .buffer .now) (λ g. c .before .is-model .ensures .no (not-true _ (c .if1 .taken)) (g .model))
 
 write-over-requires : tie.Need-write-over-requires
 write-over-requires c κs = given-table _ (c .before .before .is-model .ensures .yes (not-false _ (c .before .if1 .left)))

@@ -11,6 +11,7 @@ pub use lengths::text_length;
 pub use pool::claim;
 pub use pool::claims;
 pub use pool::up_to_last;
+pub use starts::POOL_SIZE;
 pub use starts::POOL_START;
 pub use starts::bounds_start;
 pub use starts::claims_start;

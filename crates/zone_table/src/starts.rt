@@ -10,6 +10,9 @@ pub(crate) const BOUNDS_START: usize = 384;
 // Where the pool begins, which has the claims of all zones.
 pub const POOL_START: usize = 14256;
 
+// How many claims it has room for: a claim takes two bytes of a text.
+pub const POOL_SIZE: usize = 32767;
+
 // Where the head of a zone begins: its location, then its tasks, and in the last cell the end of its claims.
 pub fn head_start(zone: u32) -> usize
     requires { ⌜ (1 ≤ zone) × (zone ≤ 48) ⌝ }

@@ -13,6 +13,7 @@ use crate::counts;
 use crate::counts::queued;
 use crate::lengths::text_length;
 use crate::starts::BOUNDS_START;
+use crate::starts::POOL_SIZE;
 use crate::starts::POOL_START;
 use crate::starts::bounds_start;
 use crate::starts::claims_end;
@@ -26,10 +27,8 @@ const TEXT_MOST: usize = 65535;
 // A table's full size.
 const SIZE: usize = 47023;
 
-// How many claims there is room for.
-const POOL_SIZE: usize = 32767;
-
-const POOL_MOST: u32 = 32767;
+// How many claims there is room for, as the ends of claims are kept.
+const POOL_MOST: u32 = POOL_SIZE as u32;
 
 // The largest c of a bound as it is kept in its cell.
 const KEPT_MOST: u32 = 64001;

@@ -50,7 +50,8 @@ pub record Ready (c : Sofar) (s : List ℕ) (at : ℕ) (t : List ℕ) : Type 0 w
   pub zones : c .zones ≤ 48
   pub due : c .due ≡ true → c .zones < 48
   pub len : c .len ≤ 6
-  pub pool : c .pool ≤ 226 * c .zones
+  -- a claim takes two bytes of the text at least: a space and a digit
+  pub pool : 2 * c .pool ≤ at
 
 -- of the zone that is begun, the table has a location and a queue order that a text can say
 pub record Begun (m : Model) (c : Sofar) (t : List ℕ) : Type 0 where

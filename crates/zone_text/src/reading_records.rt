@@ -8,6 +8,7 @@ ghost use Rattle.meaning.specs.Text.ProposalReader.{look, lookOrder, lookBound,
 ghost use Rattle.zone_text.specs.Held.{Holds, Ready, Begun, Took};
 use crate::reading_marks;
 use crate::reading_rows;
+use zone_table::POOL_SIZE;
 use zone_table::POOL_START;
 use zone_table::bounds_start;
 use zone_table::head_start;
@@ -120,7 +121,7 @@ fn take_claims(model: &[u32], s: &[u8], at: usize, x: Sofar, t: &mut [u32]) -> T
     let q = POOL_START + pool;
     // the claims that follow do not touch the location and the queue
     let home = home_with(t, zone, x.len as u32);
-    let r = reading_rows::read_row(s, at + 2, s.len(), 0, 48, t, q, 226);
+    let r = reading_rows::read_row(s, at + 2, s.len(), 0, 48, t, q, POOL_SIZE - pool);
     if 0 < r.refusal {
         return Taken::Fault(r.refusal, r.at);
     }

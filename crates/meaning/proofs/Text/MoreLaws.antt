@@ -6,7 +6,7 @@ use mathlib.Core.List.{List, [], _++_, _∷_, map}
 use mathlib.Core.Path.{_∙_, _≡_, ap, refl, sym}
 use native.Mathlib.Omega.{arith}
 use lib.Dec.{eqb, ltb}
-use lib.ListN.{drop, getD, length, length-append, replicate}
+use lib.ListN.{drop, getD, length, length-append, length-drop, replicate}
 use borrow.Author.Tests.{eqb-true, le-ltb, lt-ltb}
 use Rattle.meaning.proofs.Text.Choices.{by-lt, by-pick, nonsense}
 use Rattle.meaning.proofs.Text.Collects.{each-append}
@@ -142,3 +142,10 @@ pub numbers-long : (vs : List ℕ) → 1 + 2 * length vs ≤ length (numbersText
 unfolding numbersText fieldsText
 numbers-long [] = omega arith
 numbers-long (v ∷ vs) = omega (arith, kept-some 0 v, numbers-long vs, length-append (keptText 0 v) (fieldsText (map (λ (v : ℕ). 0) vs) vs))
+
+-- a line of numbers ends within the text
+pub more-long : (e : Range) → Plain e → (n : ℕ) (s : List ℕ) (at : ℕ) (vs : List ℕ) (next : ℕ) → fieldsUpTo n e s at ≡ ok vs next → at + (1 + 2 * length vs) ≤ length s
+unfolding fieldsMore
+more-long e p n s at vs next q =
+    let c = plain-inv [] e tt p n s at vs next q in
+    omega (arith, sym (length-drop at s) ∙ ap length (c .3), length-append (numbersText vs) (drop next s), numbers-long vs)

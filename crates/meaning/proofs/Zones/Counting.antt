@@ -188,6 +188,6 @@ unfolding placesFrom
 placesFrom-most m l o [] h = omega arith
 placesFrom-most m l o (e ∷ es) h = omega (arith, places-most m l o e h, placesFrom-most m l o es h)
 
--- a zone has at most 226 steps
-pub steps-most : (m : Model) (z : Zone) → length (z .order) ≤ queueMost → length (m .edges) ≤ edgesMost → length (steps m z) ≤ 226
+-- a tick that goes on, one that finishes, and the places of each edge
+pub steps-most : (m : Model) (z : Zone) → length (z .order) ≤ queueMost → length (m .edges) ≤ edgesMost → length (steps m z) ≤ 2 + placesMost * edgesMost
 steps-most m z h n = omega (arith, steps-count m z, placesFrom-most m (z .location) (z .order) (m .edges) h)

@@ -10,32 +10,32 @@ use lib.ListN.{length, getD, getElem?, set, take, length-append}
 use lib.Seq.{sets}
 use borrow.Author.Tests.{eq-eqb, ne-eqb}
 use Rattle.meaning.specs.Model.{Model}
-use Rattle.meaning.specs.Zones.Zone.{Zone, widest}
+use Rattle.meaning.specs.Zones.Zone.{Zone}
 use Rattle.meaning.specs.Zones.Reached as R
 use Rattle.meaning.specs.Zones.Steps.{steps}
 use Rattle.meaning.specs.Text.Choice.{pick}
-use Rattle.meaning.specs.Text.Ranges.{zonesMost}
+use Rattle.meaning.specs.Text.Ranges.{textMost, zonesMost}
 use Rattle.meaning.specs.Text.Refusals.{markNotHere, wrongClaims}
 use Rattle.meaning.specs.Text.Lines.{Fields, ok, bad, out, between, fieldsUpTo, fieldsMore}
 use Rattle.meaning.specs.Text.RecordRow.{Met, next, wrong}
 use Rattle.meaning.specs.Text.RightModel.{RightModel}
 use Rattle.meaning.specs.Text.RightProposal.{RightOrder, claimsFit, zeroDue, zerosAt}
 use Rattle.meaning.specs.Text.ModelReader.{words}
-use Rattle.meaning.specs.Text.ProposalTable.{allClaims, encode}
+use Rattle.meaning.specs.Text.ProposalTable.{allClaims, encode, poolSize}
 use Rattle.meaning.specs.Text.ProposalReader.{Entry, whole, begun, claims, put, proposalOf, judged, lookClaims, withClaims}
 use Rattle.meaning.specs.Text.ProposalReader as reader
 use Rattle.meaning.proofs.Text.Choices.{nonsense}
 use Rattle.meaning.proofs.Text.Keyed.{nth-some}
 use Rattle.meaning.proofs.Text.ProposalEncode.{encode-length, location-cell, task-cell, nth-past}
 use Rattle.meaning.proofs.Text.ProposalStore.{claims-more, store-claims}
-use Rattle.meaning.proofs.Zones.Counting.{steps-most}
+use Rattle.meaning.proofs.Text.MoreLaws.{more-long}
 use Rattle.home.specs.declared.Home.{Home}
 use Rattle.home.specs.Stands.{orderOf, homeOf, RightHome}
 use Rattle.zone_list.specs.declared.form.Steps.{Steps}
 use Rattle.zone_list.specs.Steps.{listAt}
 use Rattle.zone_list.specs.Counted.{numbersIn, zerosKept, StepsAre}
 use Rattle.zone_table.specs.Read.{HomeRead}
-use Rattle.zone_table.proofs.ReadLaws.{standing, numbers-length}
+use Rattle.zone_table.proofs.ReadLaws.{standing}
 use Rattle.zone_text.specs.declared.reading_records.Sofar.{Sofar}
 use Rattle.zone_text.specs.declared.reading_records.Taken.the-variants.{Next}
 use Rattle.zone_text.specs.declared.reading_rows.Row.{Row}
@@ -106,8 +106,8 @@ module _ (m : Model) (r : RightModel m) (s : List ℕ) (at : ℕ) (y : reader.So
       go (whole zs) w = refl
       go (begun zs z) w = let e = w .1 in nonsense (cc)
 
-  -- what the line came to
-  module _ (d : x .due ≡ true) (b : Row) (t′ : List ℕ) (told : RowTold (fieldsUpTo (length s) (between 0 zonesMost) s (at + 2)) b (14256 + x .pool) 226 t t′) where
+  -- what the line came to; a claim takes two bytes, so the pool has room for what a text can say
+  module _ (early : 2 * x .pool ≤ at) (short : length s ≤ textMost) (d : x .due ≡ true) (b : Row) (t′ : List ℕ) (told : RowTold (fieldsUpTo (length s) (between 0 zonesMost) s (at + 2)) b (14256 + x .pool) (poolSize - x .pool) t t′) where
     abbrev line : Fields
     line = fieldsUpTo (length s) (between 0 zonesMost) s (at + 2)
 
@@ -122,7 +122,7 @@ module _ (m : Model) (r : RightModel m) (s : List ℕ) (at : ℕ) (y : reader.So
     unfolding judged
     claims-refused a = go y (h .stands)
       where
-        by-line : (l : Fields) (z : Zone) → RowTold l b (14256 + x .pool) 226 t t′ → judgedBy z l ≡ wrong (b .refusal) (b .at)
+        by-line : (l : Fields) (z : Zone) → RowTold l b (14256 + x .pool) (poolSize - x .pool) t t′ → judgedBy z l ≡ wrong (b .refusal) (b .at)
         by-line (ok vs k) z w = absurd (let q = w .0 in omega arith)
         by-line (bad k) z w = rw (w .0, w .1)
         by-line (out k) z w = rw (w .0, w .1)
@@ -135,37 +135,40 @@ module _ (m : Model) (r : RightModel m) (s : List ℕ) (at : ℕ) (y : reader.So
     record Read : Type 0 where
       numbers : List ℕ
       many : b .many ≡ length numbers
-      stored : length numbers ≤ 226 → t′ ≡ sets t (14256 + x .pool) (map suc numbers)
+      room : x .pool + length numbers ≤ poolSize
+      stored : t′ ≡ sets t (14256 + x .pool) (map suc numbers)
       seen : (zs : List Zone) (z : Zone) → lookClaims m s at (begun zs z) ≡ pick (claimsFit m z numbers) (next (claims numbers) (b .at)) (wrong wrongClaims at)
 
     read : b .refusal ≤ 0 → Read
     unfolding judged
-    read a = go line told look-is
+    read a = go line refl told look-is
       where
-        go : (l : Fields) → RowTold l b (14256 + x .pool) 226 t t′ → ((zs : List Zone) (z : Zone) → lookClaims m s at (begun zs z) ≡ judgedBy z l) → Read
-        go (ok vs k) w q =
-            record { numbers = vs; many = w .2; stored = w .3; seen = λ zs z. q zs z ∙ ap (λ (i : ℕ). pick (claimsFit m z vs) (next (claims vs) i) (wrong wrongClaims at)) (sym (w .1)) }
-        go (bad k) w q = absurd (let q = w .0 in omega arith)
-        go (out k) w q = absurd (let q = w .0 in omega arith)
+        go : (l : Fields) → line ≡ l → RowTold l b (14256 + x .pool) (poolSize - x .pool) t t′ → ((zs : List Zone) (z : Zone) → lookClaims m s at (begun zs z) ≡ judgedBy z l) → Read
+        go (ok vs k) e w q =
+            let n = more-long (between 0 zonesMost) (record { below = refl; high = omega arith }) (length s) s (at + 2) vs k e in
+            record {
+              numbers = vs;
+              many = w .2;
+              room = omega arith;
+              stored = w .3 (omega arith);
+              seen = λ zs z. q zs z ∙ ap (λ (i : ℕ). pick (claimsFit m z vs) (next (claims vs) i) (wrong wrongClaims at)) (sym (w .1));
+            }
+        go (bad k) e w q = absurd (let q = w .0 in omega arith)
+        go (out k) e w q = absurd (let q = w .0 in omega arith)
 
-    module _ (a : b .refusal ≤ 0) (few : x .len ≤ 6) (o : Home) (there : HomeRead t (x .zones + 1 - 1) (x .len) o) (w : Steps) (steps-are : StepsAre m (homeOf o) t′ (14256 + x .pool) w) where
+    module _ (a : b .refusal ≤ 0) where
+      pub claims-room : x .pool + b .many ≤ poolSize
+      claims-room = omega (arith, read a .many, read a .room)
+
+    module _ (a : b .refusal ≤ 0) (o : Home) (there : HomeRead t (x .zones + 1 - 1) (x .len) o) (w : Steps) (steps-are : StepsAre m (homeOf o) t′ (14256 + x .pool) w) where
       same-zone : x .zones + 1 - 1 ≡ x .zones
       same-zone = omega arith
 
-      vs : List ℕ
-      vs = read a .numbers
-
-      -- the steps that the code counted are at most 226
-      w-most : w .many ≤ 226
-      w-most =
-          let n = ap (λ (i : ℕ). length (take i (o .tasks))) (there .count) ∙ ap length (there .tasks .is) ∙ numbers-length t (8 * (x .zones + 1 - 1) + 1) (x .len) in
-          omega (arith, steps-are .many, steps-most m (widest (o .location) (orderOf o)) (omega (arith, n)) (r .edges-high))
-
-      -- of a zone that is begun, with claims that fit the room, they are the zone's
-      module _ (zs : List Zone) (z : Zone) (st : Stands (begun zs z) x) (so : Sound m (begun zs z)) (tb : t ≡ encode (proposalOf (begun zs z))) (n : b .many ≤ 226) where
+      -- of a zone that is begun they are the zone's
+      module _ (zs : List Zone) (z : Zone) (st : Stands (begun zs z) x) (so : Sound m (begun zs z)) (tb : t ≡ encode (proposalOf (begun zs z))) where
         stored : t′ ≡ sets (encode (record { zones = zs ++ z ∷ [] })) (14256 + x .pool) (map suc (read a .numbers))
         unfolding proposalOf
-        stored = read a .stored (omega (arith, read a .many)) ∙ ap (λ (l : List ℕ). sets l (14256 + x .pool) (map suc (read a .numbers))) tb
+        stored = read a .stored ∙ ap (λ (l : List ℕ). sets l (14256 + x .pool) (map suc (read a .numbers))) tb
 
         home-is : homeOf o ≡ record { location = z .location; order = z .order }
         unfolding proposalOf
@@ -176,9 +179,10 @@ module _ (m : Model) (r : RightModel m) (s : List ℕ) (at : ℕ) (y : reader.So
         many-is : w .many ≡ length (steps m z)
         many-is = steps-are .many ∙ ap (λ (v : R.Home). length (listAt m v)) home-is
 
-        zeros-are : b .many ≡ w .many → x .pool + 226 ≤ 32767 → w .zeros ≡ zerosAt (zeroDue m z) (steps m z) (read a .numbers)
-        zeros-are q p =
+        zeros-are : b .many ≡ w .many → w .zeros ≡ zerosAt (zeroDue m z) (steps m z) (read a .numbers)
+        zeros-are q =
             let e = read a .many in
+            let k = read a .room in
             steps-are .zeros ∙ ap (λ (v : R.Home). zerosKept m v t′ (14256 + x .pool)) home-is
             ∙ ap (zerosAt (zeroDue m z) (steps m z))
             (ap (λ (l : List ℕ). numbersIn l (14256 + x .pool) (length (steps m z))) stored
@@ -197,31 +201,29 @@ module _ (m : Model) (r : RightModel m) (s : List ℕ) (at : ℕ) (y : reader.So
       claims-count q = misfit (λ zs z st so tb.
           rw (ne-eqb (length (read a .numbers)) (length (steps m z)) (λ f.
           let e = read a .many in
-          let n = steps-most m z (so .2 .few) (r .edges-high) in
-          q (omega (arith, many-is zs z st so tb (omega arith))))))
+          q (omega (arith, many-is zs z st so tb)))))
 
-      pub claims-zeros : b .many ≡ w .many → x .pool + 226 ≤ 32767 → w .zeros ≡ false → lookClaims m s at y ≡ wrong wrongClaims at
-      claims-zeros q p f = misfit (λ zs z st so tb.
+      pub claims-zeros : b .many ≡ w .many → w .zeros ≡ false → lookClaims m s at y ≡ wrong wrongClaims at
+      claims-zeros q f = misfit (λ zs z st so tb.
           let e = read a .many in
-          let n = w-most in
-          let k = many-is zs z st so tb (omega arith) in
-          let g : zerosAt (zeroDue m z) (steps m z) (read a .numbers) ≡ false = sym (zeros-are zs z st so tb (omega arith) q p) ∙ f in
+          let k = many-is zs z st so tb in
+          let g : zerosAt (zeroDue m z) (steps m z) (read a .numbers) ≡ false = sym (zeros-are zs z st so tb q) ∙ f in
           rw (eq-eqb (length (read a .numbers)) (length (steps m z)) (omega arith), g))
 
-      pub claims-taken : (head : ℕ) → head ≡ 8 * (x .zones + 1 - 1) → b .many ≡ w .many → x .pool + 226 ≤ 32767 → w .zeros ≡ true
+      pub claims-taken : (head : ℕ) → head ≡ 8 * (x .zones + 1 - 1) → b .many ≡ w .many → w .zeros ≡ true
           → Took (lookClaims m s at y) y (Next (b .at) (record { zones = x .zones + 1; due = false; len = 0; cursor = 0; pool = x .pool + b .many })) t (set t′ (head + 7) (x .pool + b .many))
       unfolding put
-      claims-taken head first q p f = go y (h .stands) (h .sound) (h .table)
+      claims-taken head first q f = go y (h .stands) (h .sound) (h .table)
         where
           go : (v : reader.Sofar) → Stands v x → Sound m v → t ≡ encode (proposalOf v)
               → Took (lookClaims m s at v) v (Next (b .at) (record { zones = x .zones + 1; due = false; len = 0; cursor = 0; pool = x .pool + b .many })) t (set t′ (head + 7) (x .pool + b .many))
           go (whole zs) st so tb = let q = st .1 in nonsense (cc)
           go (begun zs z) st so tb =
               let e = read a .many in
-              let n = w-most in
+              let n = read a .room in
               let c = st .2 in
-              let k = many-is zs z st so tb (omega arith) in
-              let g : zerosAt (zeroDue m z) (steps m z) (read a .numbers) ≡ true = sym (zeros-are zs z st so tb (omega arith) q p) ∙ f in
+              let k = many-is zs z st so tb in
+              let g : zerosAt (zeroDue m z) (steps m z) (read a .numbers) ≡ true = sym (zeros-are zs z st so tb q) ∙ f in
               let j : claimsFit m z (read a .numbers) ≡ true = rw (eq-eqb (length (read a .numbers)) (length (steps m z)) (omega arith), g) in
               took-next (lookClaims m s at (begun zs z)) (begun zs z) (claims (read a .numbers)) (b .at) (record { zones = x .zones + 1; due = false; len = 0; cursor = 0; pool = x .pool + b .many }) t
               (set t′ (head + 7) (x .pool + b .many)) (read a .seen zs z ∙ rw j) (
@@ -231,5 +233,5 @@ module _ (m : Model) (r : RightModel m) (s : List ℕ) (at : ℕ) (y : reader.So
                 refl,
               )
               (ap (λ (k : ℕ). set t′ (k + 7) (x .pool + b .many)) (first ∙ ap (λ (k : ℕ). 8 * k) same-zone)
-              ∙ same-table t t′ (encode (proposalOf (begun zs z))) (x .pool) (length (allClaims zs)) (x .zones) (length zs) (b .many) (length (read a .numbers)) (read a .numbers) (read a .stored (omega arith)) tb (st .2) (st .0) e
+              ∙ same-table t t′ (encode (proposalOf (begun zs z))) (x .pool) (length (allClaims zs)) (x .zones) (length zs) (b .many) (length (read a .numbers)) (read a .numbers) (read a .stored) tb (st .2) (st .0) e
               ∙ sym (store-claims m r zs z (read a .numbers) so (omega arith)))

@@ -9,13 +9,10 @@ use lib.ListN.{length, replicate, length-append, length-replicate, getD-replicat
 use lib.Seq.{ext-getD}
 use borrow.Author.Tests.{eq-eqb, ne-eqb, lt-ltb, le-ltb}
 use Rattle.meaning.specs.Model.{Model}
-use Rattle.meaning.specs.Zones.Zone.{Zone}
-use Rattle.meaning.specs.Text.Ranges.{textMost, zonesMost}
+use Rattle.meaning.specs.Text.Ranges.{textMost}
 use Rattle.meaning.specs.Text.Refusals.{tooLong, commaOrStop, wrongRoom, notProper}
 use Rattle.meaning.specs.Text.Records.{Answer, done, refused, firstStop, wholeText}
 use Rattle.meaning.specs.Text.RecordRow.{Met, next, closed, wrong, read}
-use Rattle.meaning.specs.Text.RightModel.{Each, RightModel}
-use Rattle.meaning.specs.Text.RightProposal.{RightZone}
 use Rattle.meaning.specs.Text.ModelTable.{decode}
 use Rattle.meaning.specs.Text.ModelReader.{left}
 use Rattle.model_table.specs.Right.{RightTable}
@@ -25,10 +22,9 @@ use Rattle.meaning.specs.Text.ProposalReader as reader
 use Rattle.meaning.proofs.Text.Choices.{nonsense}
 use Rattle.meaning.proofs.Text.ProposalLaws.{Good, lawful}
 use Rattle.meaning.proofs.Text.ProposalEncode.{encode-length, head-cell, bound-cell, pool-cell}
-use Rattle.meaning.proofs.Text.ProposalStore.{by-cell}
-use Rattle.meaning.proofs.Text.ProposalLoop.{ReadingTo, look-next}
+use Rattle.meaning.proofs.Text.ProposalStore.{by-cell, claims-more}
+use Rattle.meaning.proofs.Text.ProposalLoop.{ReadingTo, look-next, pool-more}
 use Rattle.meaning.proofs.Text.RecordRowLoop.{reading-first, reading-more, reading-closed, reading-wrong}
-use Rattle.meaning.proofs.Zones.Counting.{steps-most}
 use Rattle.zone_text.specs.declared.reading_records.Sofar.{Sofar}
 use Rattle.zone_text.specs.declared.reading_records.Taken.{Taken}
 use Rattle.zone_text.specs.declared.reading_records.Taken.the-variants.{Next, End, Fault}
@@ -37,19 +33,6 @@ use Rattle.zone_text.specs.declared.reading.Read.the-variants.{Done, Ref
 use Rattle.zone_text.specs.Held.{Holds, Ready, Sound, Stands, Begun, Took}
 use Rattle.zone_text.specs.Meant.{Answered}
 use Rattle.zone_text.proofs.Laws.Claims.{begun-is}
-
--- ---- how many claims there are
-
-pool-few : (m : Model) (r : RightModel m) (zs : List Zone) → Each (RightZone m zonesMost) zs → length (allClaims zs) ≤ 226 * length zs
-pool-few m r [] e = omega arith
-pool-few m r (z ∷ zs) e =
-    omega (
-      arith,
-      pool-few m r zs (e .1),
-      e .0 .claims .many,
-      steps-most m z (e .0 .order .few) (r .edges-high),
-      length-append (z .claims) (allClaims zs),
-    )
 
 -- ---- the table before the first record
 
@@ -75,6 +58,7 @@ pub record ReadingAt (b s : List ℕ) (at : ℕ) (x : Sofar) (t : List ℕ) : Ty
   pub reading : ReadingTo (decode b) (model .right) s at sofar
   pub stands : Stands sofar x
   pub table : t ≡ encode (proposalOf sofar)
+  pub pool : 2 * length (allClaims (proposalOf sofar .zones)) ≤ at
 
 pub reading-start : (b s t : List ℕ) → RightTable b → length s ≤ textMost → length t ≡ size → t ≡ replicate (length t) 0
     → ReadingAt b s 0 (record { zones = 0; due = false; len = 0; cursor = 0; pool = 0 }) t
@@ -86,6 +70,7 @@ reading-start b s t g h n e = record {
   reading = reading-first (row (decode b)) (lawful (decode b) (g .right)) (λ s at x w k e. look-next (decode b) s at (g .right) x w k e) s;
   stands = (refl, refl, refl, refl);
   table = e ∙ ap (λ (k : ℕ). replicate k 0) n ∙ empty-table;
+  pool = omega arith;
 }
 
 module _ (b s : List ℕ) (at : ℕ) (x : Sofar) (t : List ℕ) (r : ReadingAt b s at x t) where
@@ -97,30 +82,35 @@ module _ (b s : List ℕ) (at : ℕ) (x : Sofar) (t : List ℕ) (r : ReadingAt b
   unfolding lawful
   is-sound = sound (r .sofar) (r .reading .good)
 
+  good : (y : reader.Sofar) → Sound (decode b) y → Good (decode b) (r .model .right) y
+  good (whole zs) g = g
+  good (begun zs z) g = g
+
   pub holds : Holds (decode b) (r .sofar) x t
   holds = record { sound = is-sound; stands = r .stands; table = r .table }
 
   pub ready : Ready x s at t
-  ready = go (r .sofar) is-sound (r .stands) (r .table)
+  unfolding proposalOf
+  ready = go (r .sofar) is-sound (r .stands) (r .table) (r .pool)
     where
-      go : (y : reader.Sofar) → Sound (decode b) y → Stands y x → t ≡ encode (proposalOf y) → Ready x s at t
-      go (whole zs) g w e = record {
+      go : (y : reader.Sofar) → Sound (decode b) y → Stands y x → t ≡ encode (proposalOf y) → 2 * length (allClaims (proposalOf y .zones)) ≤ at → Ready x s at t
+      go (whole zs) g w e p = record {
         long = ap length e ∙ encode-length (proposalOf (whole zs));
         short = r .short;
         within = r .reading .within;
         zones = omega (arith, w .0, g .0);
         due = λ q. nonsense (let p = w .1 in (cc));
         len = omega (arith, w .3);
-        pool = omega (arith, w .0, w .2, pool-few (decode b) (r .model .right) zs (g .1));
+        pool = omega (arith, w .2);
       }
-      go (begun zs z) g w e = record {
+      go (begun zs z) g w e p = record {
         long = ap length e ∙ encode-length (proposalOf (begun zs z));
         short = r .short;
         within = r .reading .within;
         zones = omega (arith, w .0, g .0);
         due = λ q. omega (arith, w .0, g .0);
         len = omega (arith, w .3, g .2 .few);
-        pool = omega (arith, w .0, w .2, pool-few (decode b) (r .model .right) zs (g .1));
+        pool = omega (arith, w .2, ap length (claims-more zs z), length-append (allClaims zs) (z .claims));
       }
 
   pub begun-ready : Begun (decode b) x t
@@ -148,6 +138,7 @@ module _ (b s : List ℕ) (at : ℕ) (x : Sofar) (t : List ℕ) (r : ReadingAt b
                 reading = reading-more (row (decode b)) (lawful (decode b) (r .model .right)) (λ s at x w k e. look-next (decode b) s at (r .model .right) x w k e) s at (r .sofar) (r .reading) y k q₁;
                 stands = subst (λ (z : Sofar). Stands (put (r .sofar) y) z) c₁ (v .2);
                 table = v .3;
+                pool = pool-more (decode b) (r .model .right) s at (r .sofar) y k (good (r .sofar) is-sound) (r .reading .within) q₁ (r .pool);
               },
             )
 

@@ -32,6 +32,9 @@ home-with-requires c κs = let z = c .before .before .before .before .before .be
 add-read-row : tie.Need-add-read-row
 add-read-row c = search needs
 
+sub-read-row : tie.Need-sub-read-row
+sub-read-row c = let b = c .before .before .before .before .before .before .before .before .before .before .pre .1 in omega (arith, b .pool, b .within, b .short)
+
 read-row-requires : tie.Need-read-row-requires
 read-row-requires c κs = search needs
 
@@ -42,7 +45,7 @@ returns-2 : tie.Need-returns-2
 returns-2 c =
     let b = c .before .before .before .before .before .before .before .before .before .before .before .before .before .before .before in
     let a = b .args in
-    λ y h. took-wrong _ y _ _ _ _ (claims-refused (decode (a .model .now)) (b .pre .0 .right) (a .s .now) (a .at) y (a .x) (a .t .now) h (not-false _ (c .before .before .before .before .before .before .before .before .before .before .if1 .left)) (c .before .before .before .before .read-row .result) _ (c .before .before .before .before .read-row .ensures .0) (c .if2 .taken))
+    λ y h. took-wrong _ y _ _ _ _ (claims-refused (decode (a .model .now)) (b .pre .0 .right) (a .s .now) (a .at) y (a .x) (a .t .now) h (b .pre .1 .pool) (b .pre .1 .short) (not-false _ (c .before .before .before .before .before .before .before .before .before .before .if1 .left)) (c .before .before .before .before .read-row .result) _ (c .before .before .before .before .read-row .ensures .0) (c .if2 .taken))
 
 steps-requires : tie.Need-steps-requires
 steps-requires c κs =
@@ -50,7 +53,7 @@ steps-requires c κs =
     let a = b .args in
     let d = not-false _ (c .before .before .before .before .before .before .before .before .before .before .before .if1 .left) in
     let z = b .pre .1 .due d in
-    (b .pre .0, (begun-home (decode (a .model .now)) (a .x) (a .t .now) (c .before .before .before .before .before .before .before .home-with .result) (b .pre .2) d (b .pre .1 .len) (c .before .before .before .before .before .before .before .home-with .ensures), omega (arith, b .pre .1 .pool)))
+    (b .pre .0, (begun-home (decode (a .model .now)) (a .x) (a .t .now) (c .before .before .before .before .before .before .before .home-with .result) (b .pre .2) d (b .pre .1 .len) (c .before .before .before .before .before .before .before .home-with .ensures), omega (arith, b .pre .1 .pool, b .pre .1 .within, b .pre .1 .short)))
 
 same-length-2 : tie.Need-same-length-2
 same-length-2 c = search needs
@@ -59,8 +62,8 @@ returns-3 : tie.Need-returns-3
 returns-3 c =
     let b = c .before .before .before .before .before .before .before .before .before .before .before .before .before .before .before .before .before .before .before in
     let a = b .args in
-    λ y h. took-wrong _ y 9 (a .at) _ _ (claims-count (decode (a .model .now)) (b .pre .0 .right) (a .s .now) (a .at) y (a .x) (a .t .now) h (not-false _ (c .before .before .before .before .before .before .before .before .before .before .before .before .before .before .if1 .left)) (c .before .before .before .before .before .before .before .before .read-row .result) _ (c .before .before .before .before .before .before .before .before .read-row .ensures .0)
-    (c .before .before .before .before .if2 .left) (b .pre .1 .len) (c .before .before .before .before .before .before .before .before .before .before .home-with .result) (c .before .before .before .before .before .before .before .before .before .before .home-with .ensures) (c .before .before .steps .result) (c .before .before .steps .ensures) (c .if3 .taken))
+    λ y h. took-wrong _ y 9 (a .at) _ _ (claims-count (decode (a .model .now)) (b .pre .0 .right) (a .s .now) (a .at) y (a .x) (a .t .now) h (b .pre .1 .pool) (b .pre .1 .short) (not-false _ (c .before .before .before .before .before .before .before .before .before .before .before .before .before .before .if1 .left)) (c .before .before .before .before .before .before .before .before .read-row .result) _ (c .before .before .before .before .before .before .before .before .read-row .ensures .0)
+    (c .before .before .before .before .if2 .left) (c .before .before .before .before .before .before .before .before .before .before .home-with .result) (c .before .before .before .before .before .before .before .before .before .before .home-with .ensures) (c .before .before .steps .result) (c .before .before .steps .ensures) (c .if3 .taken))
 
 same-length-3 : tie.Need-same-length-3
 same-length-3 c = search needs
@@ -70,18 +73,17 @@ returns-4 c =
     let b = c .before .before .before .before .before .before .before .before .before .before .before .before .before .before .before .before .before .before .before .before .before in
     let a = b .args in
     let z = b .pre .1 .due (not-false _ (c .before .before .before .before .before .before .before .before .before .before .before .before .before .before .before .before .if1 .left)) in
-    let q : a .x .pool + 226 ≤ 32767 = omega (arith, b .pre .1 .pool) in
-    λ y h. took-wrong _ y 9 (a .at) _ _ (claims-zeros (decode (a .model .now)) (b .pre .0 .right) (a .s .now) (a .at) y (a .x) (a .t .now) h (not-false _ (c .before .before .before .before .before .before .before .before .before .before .before .before .before .before .before .before .if1 .left)) (c .before .before .before .before .before .before .before .before .before .before .read-row .result) _ (c .before .before .before .before .before .before .before .before .before .before .read-row .ensures .0)
-    (c .before .before .before .before .before .before .if2 .left) (b .pre .1 .len) (c .before .before .before .before .before .before .before .before .before .before .before .before .home-with .result) (c .before .before .before .before .before .before .before .before .before .before .before .before .home-with .ensures) (c .before .before .before .before .steps .result) (c .before .before .before .before .steps .ensures) (c .before .before .if3 .left) q (not-true _ (c .if4 .taken)))
+    λ y h. took-wrong _ y 9 (a .at) _ _ (claims-zeros (decode (a .model .now)) (b .pre .0 .right) (a .s .now) (a .at) y (a .x) (a .t .now) h (b .pre .1 .pool) (b .pre .1 .short) (not-false _ (c .before .before .before .before .before .before .before .before .before .before .before .before .before .before .before .before .if1 .left)) (c .before .before .before .before .before .before .before .before .before .before .read-row .result) _ (c .before .before .before .before .before .before .before .before .before .before .read-row .ensures .0)
+    (c .before .before .before .before .before .before .if2 .left) (c .before .before .before .before .before .before .before .before .before .before .before .before .home-with .result) (c .before .before .before .before .before .before .before .before .before .before .before .before .home-with .ensures) (c .before .before .before .before .steps .result) (c .before .before .before .before .steps .ensures) (c .before .before .if3 .left) (not-true _ (c .if4 .taken)))
 
 head-start-requires : tie.Need-head-start-requires
 head-start-requires c κs = let z = c .before .before .before .before .before .before .before .before .before .before .before .before .before .before .before .before .before .before .before .before .before .pre .1 .due (not-false _ (c .before .before .before .before .before .before .before .before .before .before .before .before .before .before .before .before .if1 .left)) in (omega arith, omega arith)
 
 add-t : tie.Need-add-t
-add-t c = record { fits = omega (arith, c .before .before .before .before .before .before .before .before .before .before .before .before .before .before .before .before .before .before .before .before .before .before .pre .1 .pool, c .before .before .before .before .before .before .before .before .before .before .before .before .before .before .before .before .before .before .before .before .before .before .pre .1 .zones, c .before .before .before .before .before .before .before .before .before .before .before .before .before .before .before .before .before .before .before .before .before .before .pre .1 .short, c .before .before .before .before .before .before .before .before .before .before .before .read-row .ensures .1) }
+add-t c = let b = c .before .before .before .before .before .before .before .before .before .before .before .before .before .before .before .before .before .before .before .before .before .before .pre .1 in record { fits = omega (arith, b .pool, b .within, b .short, c .before .before .before .before .before .before .before .before .before .before .before .read-row .ensures .1) }
 
 cast-t : tie.Need-cast-t
-cast-t c = record { fits = omega (arith, c .before .before .before .before .before .before .before .before .before .before .before .before .before .before .before .before .before .before .before .before .before .before .pre .1 .pool, c .before .before .before .before .before .before .before .before .before .before .before .before .before .before .before .before .before .before .before .before .before .before .pre .1 .zones, c .before .before .before .before .before .before .before .before .before .before .before .before .before .before .before .before .before .before .before .before .before .before .pre .1 .short, c .before .before .before .before .before .before .before .before .before .before .before .read-row .ensures .1) }
+cast-t c = let b = c .before .before .before .before .before .before .before .before .before .before .before .before .before .before .before .before .before .before .before .before .before .before .pre .1 in record { fits = omega (arith, b .pool, b .within, b .short, c .before .before .before .before .before .before .before .before .before .before .before .read-row .ensures .1) }
 
 add-t-2 : tie.Need-add-t-2
 add-t-2 c = search needs
@@ -92,8 +94,8 @@ mul-t c = search needs
 slice-write-t : tie.Need-slice-write-t
 slice-write-t c = let n = c .before .before .before .before .before .before .before .before .before .before .before .read-row .kept .1 .1 .1 .1 .1 .0 ∙ c .before .before .before .before .before .before .before .before .before .before .before .before .before .before .before .before .before .before .before .before .before .before .pre .1 .long in omega (arith, n, c .head-start .ensures, c .before .before .before .before .before .before .before .before .before .before .before .before .before .before .before .before .before .before .before .before .before .before .pre .1 .zones)
 
-add-t19 : tie.Need-add-t19
-add-t19 c = record { fits = omega (arith, c .before .before .before .before .before .before .before .before .before .before .before .before .before .before .before .before .before .before .before .before .before .before .pre .1 .pool, c .before .before .before .before .before .before .before .before .before .before .before .before .before .before .before .before .before .before .before .before .before .before .pre .1 .zones, c .before .before .before .before .before .before .before .before .before .before .before .before .before .before .before .before .before .before .before .before .before .before .pre .1 .short, c .before .before .before .before .before .before .before .before .before .before .before .read-row .ensures .1) }
+add-t22 : tie.Need-add-t22
+add-t22 c = let b = c .before .before .before .before .before .before .before .before .before .before .before .before .before .before .before .before .before .before .before .before .before .before .pre .1 in record { fits = omega (arith, b .pool, b .within, b .short, c .before .before .before .before .before .before .before .before .before .before .before .read-row .ensures .1) }
 
 same-length-4 : tie.Need-same-length-4
 same-length-4 c = search needs
@@ -103,9 +105,8 @@ returns-5 c =
     let b = c .before .before .before .before .before .before .before .before .before .before .before .before .before .before .before .before .before .before .before .before .before .before in
     let a = b .args in
     let z = b .pre .1 .due (not-false _ (c .before .before .before .before .before .before .before .before .before .before .before .before .before .before .before .before .before .if1 .left)) in
-    let q : a .x .pool + 226 ≤ 32767 = omega (arith, b .pre .1 .pool) in
-    λ y h. claims-taken (decode (a .model .now)) (b .pre .0 .right) (a .s .now) (a .at) y (a .x) (a .t .now) h (not-false _ (c .before .before .before .before .before .before .before .before .before .before .before .before .before .before .before .before .before .if1 .left)) (c .before .before .before .before .before .before .before .before .before .before .before .read-row .result) _ (c .before .before .before .before .before .before .before .before .before .before .before .read-row .ensures .0)
-    (c .before .before .before .before .before .before .before .if2 .left) (b .pre .1 .len) (c .before .before .before .before .before .before .before .before .before .before .before .before .before .home-with .result) (c .before .before .before .before .before .before .before .before .before .before .before .before .before .home-with .ensures) (c .before .before .before .before .before .steps .result) (c .before .before .before .before .before .steps .ensures) _ (c .head-start .ensures) (c .before .before .before .if3 .left) q (not-false _ (c .before .if4 .left))
+    λ y h. claims-taken (decode (a .model .now)) (b .pre .0 .right) (a .s .now) (a .at) y (a .x) (a .t .now) h (b .pre .1 .pool) (b .pre .1 .short) (not-false _ (c .before .before .before .before .before .before .before .before .before .before .before .before .before .before .before .before .before .if1 .left)) (c .before .before .before .before .before .before .before .before .before .before .before .read-row .result) _ (c .before .before .before .before .before .before .before .before .before .before .before .read-row .ensures .0)
+    (c .before .before .before .before .before .before .before .if2 .left) (c .before .before .before .before .before .before .before .before .before .before .before .before .before .home-with .result) (c .before .before .before .before .before .before .before .before .before .before .before .before .before .home-with .ensures) (c .before .before .before .before .before .steps .result) (c .before .before .before .before .before .steps .ensures) _ (c .head-start .ensures) (c .before .before .before .if3 .left) (not-false _ (c .before .if4 .left))
 
 pub take-claims-spec : {M : Type 1} → statement M
 take-claims-spec =
@@ -117,6 +118,7 @@ take-claims-spec =
     cast-home-with
     home-with-requires
     add-read-row
+    sub-read-row
     read-row-requires
     same-length
     returns-2
@@ -131,6 +133,6 @@ take-claims-spec =
     add-t-2
     mul-t
     slice-write-t
-    add-t19
+    add-t22
     same-length-4
     returns-5)

@@ -52,6 +52,7 @@ module _ {A B : Type 0} where
       fresh h = let r = mem_map_inv f l h in d.0 (subst (λ (y : A). Memᴰ y l) (sym (inj x r.0 r.2)) r.1)
 
   pub mem_flat_inv : (f : A → List B) (b : B) (l : List A) → Memᴰ b (flat f l) → (a : A) × Memᴰ a l × Memᴰ b (f a)
+  mem_flat_inv f b [] h = elim h [ ]
   mem_flat_inv f b (x ∷ l) h = go (Memᴰ.append_cases (f x) h) (mem_flat_inv f b l)
     where
       go : Memᴰ b (f x) ⊎ Memᴰ b (flat f l) → (Memᴰ b (flat f l) → (a : A) × Memᴰ a l × Memᴰ b (f a))
@@ -70,11 +71,13 @@ module _ {A B : Type 0} where
           d.0 (subst (λ (a : A). Memᴰ a l) (sym (own x r.0 y h r.2)) r.1)
 
 pub up_to_from : (n k p : ℕ) → Memᴰ p (up_to k n) → k ≤ p
+up_to_from zero k p (Memᴰ.tail h) = elim h [ ]
 up_to_from zero k p (Memᴰ.head e) = omega arith
 up_to_from (suc n) k p (Memᴰ.head e) = omega arith
 up_to_from (suc n) k p (Memᴰ.tail h) = let g = up_to_from n (suc k) p h in omega arith
 
 pub up_to_upto : (n k p : ℕ) → Memᴰ p (up_to k n) → p ≤ k + n
+up_to_upto zero k p (Memᴰ.tail h) = elim h [ ]
 up_to_upto zero k p (Memᴰ.head e) = omega arith
 up_to_upto (suc n) k p (Memᴰ.head e) = omega arith
 up_to_upto (suc n) k p (Memᴰ.tail h) = let g = up_to_upto n (suc k) p h in omega arith

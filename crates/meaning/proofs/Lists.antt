@@ -25,6 +25,7 @@ module _ {A B : Type 0} where
   mem_map f (Memᴰ.tail h) = Memᴰ.tail (mem_map f h)
 
   pub mem_map_inv : (f : A → B) {b : B} (l : List A) → Memᴰ b (map f l) → (a : A) × Memᴰ a l × (b ≡ f a)
+  mem_map_inv f {b = b} [] x' = elim x' [ ]
   mem_map_inv f (x ∷ l) (Memᴰ.head e) = (x, Memᴰ.head refl, e)
   mem_map_inv f (x ∷ l) (Memᴰ.tail h) = let r = mem_map_inv f l h in (r.0, Memᴰ.tail r.1, r.2)
 
@@ -66,6 +67,7 @@ module _ {A : Type 0} where
 
   -- the test holds of every element exactly if it holds of each
   pub every_mem : (f : A → Bool) (l : List A) → every f l ≡ true → (a : A) → Memᴰ a l → f a ≡ true
+  every_mem f [] t a x'' = elim x'' [ ]
   every_mem f (x ∷ l) t a (Memᴰ.head e) = ap f e ∙ and_left (f x) (every f l) t
   every_mem f (x ∷ l) t a (Memᴰ.tail h) = every_mem f l (and_right (f x) (every f l) t) a h
 
@@ -104,6 +106,7 @@ module _ {A : Type 0} where
 
   -- no first: none at all
   pub first_none : (f : A → Bool) (l : List A) → first f l ≡ 0 → (a : A) → Memᴰ a l → f a ≡ false
+  first_none f [] e a h = elim h [ ]
   first_none f (x ∷ l) e a h = go (f x) refl e h (first_none f l)
     where
       go : (b : Bool) → f x ≡ b → cond b 1 (next (first f l)) ≡ 0 → Memᴰ a (x ∷ l) → (first f l ≡ 0 → (y : A) → Memᴰ y l → f y ≡ false) → f a ≡ false
@@ -201,6 +204,7 @@ elem_mem t (x ∷ o) h = go (eqb t x) refl h (elem_mem t o)
 
 pub mem_elem : (t : ℕ) (o : List ℕ) → Memᴰ t o → elem t o ≡ true
 mem_elem t (x ∷ o) (Memᴰ.head e) = ap (λ (b : Bool). b || elem t o) (eq-eqb t x e)
+mem_elem t [] x' = elim x' [ ]
 mem_elem t (x ∷ o) (Memᴰ.tail h) = ap (λ (b : Bool). eqb t x || b) (mem_elem t o h) ∙ or_true (eqb t x)
   where
     or_true : (b : Bool) → (b || true) ≡ true

@@ -58,10 +58,12 @@ owed_tail : {z : Zone} {st : Step} {o : Obligation} {os : List Obligation} → O
 owed_tail r = record { follow = r.follow; zone_is = r.zone_is; step_is = r.step_is; mem = Memᴰ.tail r.mem }
 
 step_owed : (n : ℕ) (z : Zone) (k : ℕ) (st : Step) (ss : List Step) (cs : List ℕ) → Memᴰ st ss → Owed z st (claimed n z k ss cs)
+step_owed n z k st [] cs x' = elim x' [ ]
 step_owed n z k st (x ∷ ss) cs (Memᴰ.head e) = record { follow = _; zone_is = refl; step_is = sym e; mem = Memᴰ.head refl }
 step_owed n z k st (x ∷ ss) cs (Memᴰ.tail h) = owed_tail (step_owed n z (suc k) st ss (tail cs) h)
 
 zone_owed : (m : Model) (n : ℕ) (z : Zone) (st : Step) (zs : List Zone) → Memᴰ z zs → Memᴰ st (steps m z) → Owed z st (of_zones m n zs)
+zone_owed m n z st [] x'' h = elim x'' [ ]
 zone_owed m n z st (y ∷ zs) (Memᴰ.head e) h =
     let r = step_owed n y 1 st (steps m y) y.claims (subst (λ (x : Zone). Memᴰ st (steps m x)) e h) in
     record { follow = r.follow; zone_is = r.zone_is ∙ sym e; step_is = r.step_is; mem = Memᴰ.append_left (of_zones m (suc n) zs) r.mem }

@@ -201,6 +201,7 @@ All P [] = Unit {0}
 All P (x ∷ xs) = P x × All P xs
 
 each_of : {A : Type 0} (P : A → Type 0) (l : List A) → All P l → (a : A) → Memᴰ a l → P a
+each_of {A = A} P [] h a x'' = elim x'' [ ]
 each_of P (x ∷ l) h a (Memᴰ.head e) = subst P (sym e) h.0
 each_of P (x ∷ l) h a (Memᴰ.tail k) = each_of P l h.1 a k
 

@@ -32,6 +32,7 @@ met_append x (b ∷ l) r =
     (λ h. ((h.0, (e.0 h.1).0), (e.0 h.1).1), λ h. (h.0.0, e.1 (h.0.1, h.1)))
 
 pub met_mem : (x : ℕ → ℕ) (bs : List Bound) → Met x bs → (b : Bound) → Memᴰ b bs → Meets x b
+met_mem x [] h b x3 = elim x3 [ ]
 met_mem x (c ∷ bs) h b (Memᴰ.head e) = subst (Meets x) (sym e) h.0
 met_mem x (c ∷ bs) h b (Memᴰ.tail w) = met_mem x bs h.1 b w
 
@@ -55,11 +56,13 @@ ranged_wider n k (b ∷ l) e h = (omega (arith, h.0), omega (arith, h.1), ranged
 
 pub ranged_mem : (n : ℕ) (l : List Bound) → Ranged n l → (b : Bound) → Memᴰ b l → (b.i < n) × (b.j < n)
 ranged_mem n (c ∷ l) h b (Memᴰ.head e) = subst (λ (y : Bound). (y.i < n) × (y.j < n)) (sym e) (h.0, h.1)
+ranged_mem n [] h b x'' = elim x'' [ ]
 ranged_mem n (c ∷ l) h b (Memᴰ.tail w) = ranged_mem n l h.2 b w
 
 -- the tests of the definitions, of a valuation that has the values vs in the first n variables
 pub met_tests : (x : ℕ → ℕ) (vs : List ℕ) (n : ℕ) (bs : List Bound) → ((i : ℕ) → i < n → x i ≡ nth1D vs i 0) → Ranged n bs → Met x bs
     → (b : Bound) → Memᴰ b bs → bound_test vs b ≡ true
+met_tests x vs n [] e r h b x5 = elim x5 [ ]
 met_tests x vs n (c ∷ bs) e r h b (Memᴰ.head q) =
     subst (λ (y : Bound). bound_test vs y ≡ true) (sym q)
     (within_make (nth1D vs c.i 0) (nth1D vs c.j 0) c.c (omega (arith, h.0, e c.i r.0, e c.j r.1)))

@@ -85,11 +85,13 @@ first_error_lem m (j ∷ q) w a =
     (first_error_lem m q (λ i h. w i (Memᴰ.tail h)) (λ i h. a i (Memᴰ.tail h)))
 
 older_owing : (m : Model) (q : List Job) → Owing m q → Owing m (map older q)
+older_owing m [] w j x'' = elim x'' [ ]
 older_owing m (x ∷ q) w j (Memᴰ.head e) = rw e (w x (Memᴰ.head refl))
 older_owing m (x ∷ q) w j (Memᴰ.tail h) = older_owing m q (λ i g. w i (Memᴰ.tail g)) j h
 
 -- a job below its deadline is at most D old a tick later
 older_aged : (m : Model) (q : List Job) → ((j : Job) → Memᴰ j q → j.age < (task_at m j.task).D) → Aged m (map older q)
+older_aged m [] a j x'' = elim x'' [ ]
 older_aged m (x ∷ q) a j (Memᴰ.head e) = rw e (omega (arith, a x (Memᴰ.head refl)))
 older_aged m (x ∷ q) a j (Memᴰ.tail h) = older_aged m q (λ i g. a i (Memᴰ.tail g)) j h
 

@@ -52,6 +52,7 @@ ordered_collect {A} R (suc n) p f h = go (p n) refl (ordered_collect R n p f (λ
 
 -- what each of a list is, any of them is
 pub each_mem : {A : Type 0} (P : A → Type 0) (xs : List A) → Each P xs → (a : A) → Memᴰ a xs → P a
+each_mem {A = A} P [] d a x'' = elim x'' [ ]
 each_mem P (x ∷ xs) d a (Memᴰ.head e) = subst P (sym e) d.0
 each_mem P (x ∷ xs) d a (Memᴰ.tail h) = each_mem P xs d.1 a h
 

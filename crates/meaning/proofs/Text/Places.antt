@@ -9,7 +9,7 @@ use native.Mathlib.Numerals.{add-one}
 use native.Mathlib.Omega.{arith}
 use lib.Dec.{eqb}
 use lib.ListN.{get_or-eq_default, drop, get_or, length, length-append, length-drop}
-use lib.Seq.{drop-append_seam, drop-cons, drop_drop, get_or-drop}
+use lib.Seq.{drop-append_seam, drop-cons, drop-drop, get_or-drop}
 use borrow.Author.Tests.{eq-eqb, eqb-true, ne_eqb}
 use Rattle.meaning.proofs.Text.Choices.{and_true, by_lt, by_pick, nonsense}
 use Rattle.meaning.proofs.Text.NumeralLaws.{number_next}
@@ -41,7 +41,7 @@ module _ (s : List ℕ) (at : ℕ) where
   here_head x l e = rw (add-zero at) at (sym (get_or-drop at s 0 0) ∙ ap (λ (r : List ℕ). get_or r 0 0) e)
 
   pub here_past : (xs l : List ℕ) → drop at s ≡ xs ++ l → drop (at + length xs) s ≡ l
-  here_past xs l e = sym (drop_drop (length xs) at s) ∙ ap (drop (length xs)) e ∙ drop-append_seam xs l
+  here_past xs l e = sym (drop-drop (length xs) at s) ∙ ap (drop (length xs)) e ∙ drop-append_seam xs l
 
   pub here_tail : (x : ℕ) (l : List ℕ) → drop at s ≡ x ∷ l → drop (at + 1) s ≡ l
   here_tail x l e = here_past (x ∷ []) l e

@@ -20,7 +20,7 @@ module _ {M W : Type 0} (F : Format M W) (L : Lawful F) where
   module _ (m : M) (p : Proper F L m) where
     part_good : (i : ℕ) → i ≤ F.size → (c : ℕ) × (L.Good (part F L m i) c) × (c ≤ i)
     unfolding part
-    part_good zero h = (0, L.Good-start, omega arith)
+    part_good zero h = (0, L.good_start, omega arith)
     part_good (suc i) h = go (F.is_none (F.get m i)) refl (part_good i (omega arith))
       where
         go : (t : Bool) → F.is_none (F.get m i) ≡ t → (c : ℕ) × (L.Good (part F L m i) c) × (c ≤ i) → (c : ℕ) × (L.Good (part F L m (suc i)) c) × (c ≤ suc i)

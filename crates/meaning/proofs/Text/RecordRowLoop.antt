@@ -20,7 +20,7 @@ module _ {M W : Type 0} (R : Row M W) (L : Lawful R) (room : (s : List ℕ) (at 
 
   pub reading_first : (s : List ℕ) → Reading s 0 R.start
   unfolding read
-  reading_first s = record { fuel = length s + 1; enough = omega arith; within = omega arith; good = L.Good-start; same = refl }
+  reading_first s = record { fuel = length s + 1; enough = omega arith; within = omega arith; good = L.good_start; same = refl }
 
   module _ (s : List ℕ) (at : ℕ) (m : M) (r : Reading s at m) where
     one_turn : (f : ℕ) → r.fuel ≡ suc f → turn R (run R f s) m (R.look s at m) ≡ read R s

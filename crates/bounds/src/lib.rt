@@ -4,6 +4,8 @@
 // closed matrix holds what follows from several of its bounds together, so each entry is the
 // tightest bound. Nothing here closes a matrix from nothing: one starts at top, and tighten and
 // remap keep it closed.
+#![tactic(auto)]
+
 mod broken;
 mod image;
 mod matrix;

@@ -1,5 +1,7 @@
 // What planners and the ground console call: the check of two texts, the printed line, and the fault's part of the texts.
 // Assumes nothing.
+#![tactic(auto)]
+
 mod digits; // digits.rt: numbers, each after one space, written
 mod fields; // fields.rt: the clocks and the jobs of a state, written
 mod room; // room.rt: the printed line, written into a room that it fits

@@ -1,5 +1,7 @@
 // Runs the examples: the arguments name the model and the zones of each in turn, and for each pair of files the name of the zones' file is
 // printed, and the line of the check. The last pairs are of files that can't be read: not there, or a folder.
+#![tactic(auto)]
+
 ghost use Rattle.io.specs.Counts.{IsPrefixLen};
 
 use console::Written;

@@ -1,5 +1,7 @@
 // A location with a queue order, and every rule about it: which edges leave it, what they release, overflow, the first place of a new job,
 // which queue orders may be, and how many variables they have.
+#![tactic(auto)]
+
 mod edges;
 mod numbering;
 mod order;

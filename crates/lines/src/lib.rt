@@ -1,5 +1,7 @@
 // One line of a text: its bytes, its numbers, its fields and its line feed, read and written.
 // Assumes nothing.
+#![tactic(auto)]
+
 mod places; // places.rt: the byte at a place
 mod numerals; // numerals.rt: a number, read
 mod fields; // fields.rt: the fields of a line, read

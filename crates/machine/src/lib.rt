@@ -1,4 +1,6 @@
 // The plain machine: start, tick and edge, one step at a time, and the place of a new job.
+#![tactic(auto)]
+
 ghost use Rattle.std.specs.Prelude.{◌≡◌, ◌+◌, ◌-◌, ◌≤◌, ◌<◌};
 ghost use Rattle.meaning.specs.Machine.Step.{tick, edge};
 ghost use Rattle.machine.specs.Promise.{Stepped, Started, Placing};

@@ -1,4 +1,6 @@
 // The parts of a model's table, read where they stand. A number that names nothing reads 0.
+#![tactic(auto)]
+
 ghost use Rattle.std.specs.Prelude.{◌≡◌, ◌+◌, ◌-◌, ◌*◌, ◌≤◌, ◌<◌, get_or, length};
 ghost use Rattle.meaning.specs.Text.ModelTable.{clocks, tasks, locations, edges, lowered, count};
 ghost use Rattle.model_table.specs.Parts.{of_task, of_location, of_edge, policy_in, work_in, deadline_in, priority_in, released_in, limit_in, from_in, to_in, bound_in, reset_in};

@@ -1,5 +1,7 @@
 // The model's table, its reader and its writer.
 // Assumes nothing.
+#![tactic(auto)]
+
 mod marks; // marks.rt: the mark of a record
 mod tables; // tables.rt: what a table has
 mod rules; // rules.rt: what a record is held to

@@ -1,5 +1,7 @@
 // Reads pairs of a model's text and a proposal's text from standard input, each text behind its length in four bytes, high byte first, and
 // prints the line of the check for each pair.
+#![tactic(auto)]
+
 ghost use Rattle.std.specs.Prelude.{◌<◌};
 
 use console::Written;

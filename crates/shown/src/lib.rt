@@ -2,6 +2,8 @@
 //
 // The states of the zone that take the step are one matrix; the plan says where they lead. Nothing is
 // moved as a matrix: an entry after the step is read where it stands before it.
+#![tactic(auto)]
+
 mod late;
 mod lowest;
 mod state;

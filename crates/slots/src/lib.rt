@@ -1,4 +1,6 @@
 // Where the jobs of a queue stand among the variables: before a step, and with the jobs that it releases put in.
+#![tactic(auto)]
+
 mod change;
 mod standing;
 mod variables;

@@ -1,4 +1,6 @@
 // Of the states in a matrix, those that take a step: narrowed by one bound of the step after the other.
+#![tactic(auto)]
+
 mod guard;
 mod head;
 mod limits;

@@ -2,6 +2,8 @@
 //
 // The states of the zone that take the step are one matrix; location and queue order after it, and
 // where each variable comes from, are a plan; the reply is the matrix, moved by the plan.
+#![tactic(auto)]
+
 ghost use Rattle.step_reach.specs.Replies.{Replied};
 
 mod plan;

@@ -1,5 +1,7 @@
 // Runs the operations on bounds on small matrices with known answers, and prints what they give. A
 // line is a row of a matrix; a star stands for "no bound".
+#![tactic(auto)]
+
 ghost use Rattle.std.specs.Prelude.{◌≡◌, false, ℕ, ◌-◌, ◌*◌, ◌<◌, ◌≤◌, pos};
 ghost use Rattle.bounds.specs.Matrix.{ent, Entry, Entries};
 ghost use Rattle.bounds.specs.Images.{var};

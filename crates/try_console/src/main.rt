@@ -1,5 +1,7 @@
 // Runs the printed line on answers that no text gets and on buffers that are too short, and the fault's part on
 // texts with known faults. A bar stands behind what is shown, so that an empty part is seen.
+#![tactic(auto)]
+
 use console::{Told, Written};
 use machine::{Job, State};
 use verdict::{Answer, Fault};

@@ -1,5 +1,7 @@
 // Replays of the plain machine: document 01's console checks of it, traces of the source documents, shortest job first, and a thousand
 // steps.
+#![tactic(auto)]
+
 use machine::{Job, Outcome, Reply, State};
 
 mod print;

@@ -1,6 +1,8 @@
 // Reads texts from standard input, each behind its length in four bytes, high byte first, and prints
 // for each what the model's reader answers: OK, or RF with the refusal number and its place. A text
 // that is read is written back, and has to be the same bytes.
+#![tactic(auto)]
+
 ghost use Rattle.std.specs.Prelude.{◌<◌};
 
 use model_text::{Read, Written};

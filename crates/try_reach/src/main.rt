@@ -6,6 +6,8 @@
 // lacks: none is); the zone's location, the length of its queue, and six tasks; the number of its
 // bounds, and for each one i, j and the bound with 50,000 added; the step's kind, edge and position;
 // and the number of clocks. A number is five digits and one byte behind them.
+#![tactic(auto)]
+
 mod cases;
 mod input;
 mod print;

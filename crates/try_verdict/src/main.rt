@@ -1,6 +1,8 @@
 // Reads pairs of a model's text and a proposal's text from standard input, each text behind its length in
 // four bytes, high byte first, and prints for each pair what the check answers. Before them, its answers
 // to tables that no text gives.
+#![tactic(auto)]
+
 mod input;
 mod longest;
 mod print;

@@ -2,6 +2,8 @@
 // length in four bytes, high byte first, and prints for each pair what the readers answer: OK, or RF,
 // 1 for the model or 2 for the proposal, the refusal number and its place. A proposal that is read is
 // written back, and has to be the same bytes.
+#![tactic(auto)]
+
 ghost use Rattle.std.specs.Prelude.{◌<◌};
 
 use model_text::Read as ModelRead;

@@ -2,6 +2,8 @@
 //
 // Obligation 1 is the start's; then zone by zone, place by place, each step with its claim. The first that
 // fails is the answer, or how many were tried.
+#![tactic(auto)]
+
 ghost use Rattle.verdict.specs.Answers.{Answered};
 
 mod answer;

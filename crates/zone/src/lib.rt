@@ -1,4 +1,6 @@
 // A zone by value: a location with a queue order, and bounds "variable i minus variable j is at most c".
+#![tactic(auto)]
+
 ghost use Rattle.zone.specs.Promise.{MadeWidest, MadeExact};
 
 mod entries;

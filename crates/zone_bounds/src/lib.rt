@@ -3,6 +3,8 @@
 // A matrix is over all 17 variables; one that a zone does not have is bounded by nothing. It starts
 // where nothing is known and is narrowed by one bound after the other; where none is left it is
 // empty, and stays so.
+#![tactic(auto)]
+
 mod narrowing;
 mod numbers;
 mod properness;

@@ -1,4 +1,6 @@
 // The list of a zone's steps: how many there are, which stands at a place, whether a step is in it, and where a claim has to be 0.
+#![tactic(auto)]
+
 mod choice;
 mod form;
 mod listed;

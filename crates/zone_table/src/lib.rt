@@ -1,4 +1,6 @@
 // A proposal's table: where its parts stand, a zone by value, the length of its text, and whether a text gives it.
+#![tactic(auto)]
+
 mod counts; // counts.rt: how many zones, and how many tasks in a queue
 mod lengths; // lengths.rt: how long the text is
 mod pool; // pool.rt: the claims of the zones

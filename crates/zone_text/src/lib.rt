@@ -1,4 +1,6 @@
 // The proposal's text: its reader and its writer.
+#![tactic(auto)]
+
 mod reading; // reading.rt: the reader
 mod reading_marks; // reading_marks.rt: the mark of a record
 mod reading_records; // reading_records.rt: one record, from the text into the table

@@ -1,5 +1,7 @@
 // Reads `model.txt` and `zones.txt` in the folder that it is run in, and prints the line of the check and a line feed. A file that can't be
 // read counts as empty.
+#![tactic(auto)]
+
 ghost use Rattle.io.specs.Counts.{IsPrefixLen};
 
 use console::Written;

@@ -1,0 +1,26 @@
+-- What the loops of `first_broken` keep, and how they end.
+use mathlib.Core.Path.{◌≡◌, refl, sym, ◌∙◌}
+use mathlib.Core.Bool.{false}
+use Prim.Native.Nat.{◌+◌, ◌-◌, ◌*◌, ◌≤◌}
+use native.Mathlib.Omega.{arith}
+use mir.Syntax.{w32}
+use mir.Val.{SFits}
+use Rattle.bounds.proofs.Signed as S
+use Rattle.bounds.proofs.Signed.{signed}
+use Rattle.bounds.proofs.Store.{true_false, false_true}
+use Rattle.bounds.proofs.Mapping.{maps_index}
+use Rattle.bounds.proofs.Breaking.{Sound, claim_met, claim_broken, sound_step, sound_row, before_index}
+use Rattle.bounds.proofs.broken.first_broken.Given as goal
+
+-- Assumes nothing.
+abbrev pub invariant-loop-b : goal.invariant-loop-b
+invariant-loop-b l = (l.b ≤ l.n) × (l.found ≡ false) × (l.i ≡ 0) × (l.j ≡ 0) × Sound l.m l.n l.p l.off l.claims l.start (l.a * 17 + l.b)
+
+abbrev pub decreases-loop-b : goal.decreases-loop-b
+decreases-loop-b l = l.n - l.b
+
+abbrev pub invariant-rows : goal.invariant-rows
+invariant-rows l = (l.a ≤ l.n) × (l.found ≡ false) × (l.i ≡ 0) × (l.j ≡ 0) × Sound l.m l.n l.p l.off l.claims l.start (l.a * 17)
+
+abbrev pub decreases-rows : goal.decreases-rows
+decreases-rows l = l.n - l.a

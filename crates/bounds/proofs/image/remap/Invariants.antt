@@ -1,0 +1,38 @@
+-- What the loops of `remap` keep, and how they end.
+use mathlib.Core.Path.{◌∙◌}
+use mathlib.Core.List.{List}
+use Prim.Native.Nat.{ℕ, ◌+◌, ◌-◌, ◌*◌, ◌≤◌}
+use native.Mathlib.Omega.{arith}
+use lib.IntN.{ℤ, pos}
+use lib.ListN.{replicate}
+use borrow.Author.Rules.{rules}
+use Rattle.bounds.specs.Matrix.{ent, at}
+use Rattle.bounds.specs.Images.{var}
+use Rattle.bounds.specs.Inner.{Shift}
+use Rattle.bounds.proofs.Signed.{back, rd}
+use Rattle.bounds.proofs.Store.{zeros_z}
+use Rattle.bounds.proofs.Grid as G
+use Rattle.bounds.proofs.Grid.{Upto}
+use Rattle.bounds.proofs.Mapping.{remapped, maps_index}
+use Rattle.bounds.proofs.image.remap.Given as goal
+
+-- Assumes nothing.
+-- what stands at an index that was passed
+abbrev pub Cell : List ℤ → List ℕ → List ℤ → ℕ → ℕ → ℤ → Type 0
+Cell m p off a b z = Shift (at m (var p a) (var p b)) (ent off a) (ent off b) z
+
+-- the matrix that the loops start from
+abbrev pub blank : List ℤ
+blank = replicate 289 (pos 0)
+
+abbrev pub invariant-loop-b : goal.invariant-loop-b
+invariant-loop-b l = (l.b ≤ l.n) × Upto (Cell l.m l.p l.off) blank l.n l.r (l.a * 17 + l.b)
+
+abbrev pub decreases-loop-b : goal.decreases-loop-b
+decreases-loop-b l = l.n - l.b
+
+abbrev pub invariant-loop-a : goal.invariant-loop-a
+invariant-loop-a l = (l.a ≤ l.n) × Upto (Cell l.m l.p l.off) blank l.n l.r (l.a * 17)
+
+abbrev pub decreases-loop-a : goal.decreases-loop-a
+decreases-loop-a l = l.n - l.a

@@ -1,0 +1,19 @@
+-- What the loops of `top` keep, and how they end.
+use mathlib.Core.Path.{◌≡◌}
+use Prim.Native.Nat.{ℕ, ◌-◌, ◌/◌, ◌%◌, ◌<◌, ◌≤◌}
+use native.Mathlib.Omega.{arith}
+use lib.ListN.{length}
+use borrow.Author.Rules.{rules}
+use Rattle.bounds.specs.Matrix.{ent}
+use Rattle.bounds.specs.Inner.{Unknown}
+use Rattle.bounds.proofs.Theory.{widest}
+use Rattle.bounds.proofs.Signed.{back, rd}
+use Rattle.bounds.proofs.Store.{stored}
+use Rattle.bounds.proofs.matrix.top.Given as goal
+
+-- Assumes nothing.
+abbrev pub invariant-loop-k : goal.invariant-loop-k
+invariant-loop-k l = (l.k ≤ 289) × (length l.r ≡ 289) × ((q : ℕ) → q < l.k → Unknown (q / 17) (q % 17) (ent l.r q))
+
+abbrev pub decreases-loop-k : goal.decreases-loop-k
+decreases-loop-k l = 289 - l.k

@@ -1,0 +1,19 @@
+-- What the loops of `least` keep, and how they end.
+use mathlib.Core.Path.{◌≡◌}
+use Prim.Native.Nat.{ℕ, ◌+◌, ◌-◌, ◌<◌, ◌≤◌}
+use native.Mathlib.Omega.{arith}
+use lib.ListN.{length}
+use borrow.Author.Rules.{rules}
+use Rattle.bounds.specs.Matrix.{at, Entry}
+use Rattle.bounds.specs.Images.{var}
+use Rattle.meaning.specs.Numbers.{over, under}
+use Rattle.bounds.proofs.Signed.{back, eq_read}
+use Rattle.bounds.proofs.Store.{entry_fits, stored_n, beyond_n, zeros}
+use Rattle.bounds.proofs.smallest.least.Given as goal
+
+-- Assumes nothing.
+abbrev pub invariant-loop-k : goal.invariant-loop-k
+invariant-loop-k l = (l.k ≤ l.n) × (length l.r ≡ 17) × ((q : ℕ) → q < l.k → var l.r q + over (at l.m 0 q) ≡ under (at l.m 0 q)) × ((q : ℕ) → l.k ≤ q → var l.r q ≡ 0)
+
+abbrev pub decreases-loop-k : goal.decreases-loop-k
+decreases-loop-k l = l.n - l.k

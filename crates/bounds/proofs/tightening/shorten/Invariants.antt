@@ -1,0 +1,32 @@
+-- What the loops of `shorten` keep, and how they end.
+use mathlib.Core.List.{List}
+use lib.IntN.{ℤ}
+use Prim.Native.Nat.{ℕ, ◌+◌, ◌-◌, ◌*◌, ◌≤◌}
+use native.Mathlib.Omega.{arith}
+use borrow.Author.Rules.{rules}
+use mir.Syntax.{w32}
+use mir.Val.{to_z}
+use Rattle.bounds.specs.Matrix.{at, Entry}
+use Rattle.bounds.specs.Inner.{Via}
+use Rattle.bounds.proofs.Signed.{back, rd}
+use Rattle.bounds.proofs.Store.{entry_fits}
+use Rattle.bounds.proofs.Grid as G
+use Rattle.bounds.proofs.Grid.{Upto}
+use Rattle.bounds.proofs.tightening.shorten.Given as goal
+
+-- Assumes nothing.
+-- what stands at an index that was passed
+abbrev pub Cell : List ℤ → ℕ → ℕ → ℤ → ℕ → ℕ → ℤ → Type 0
+Cell m i j c a b z = Via (at m a b) (at m a i) c (at m j b) z
+
+abbrev pub invariant-loop-b : goal.invariant-loop-b
+invariant-loop-b l = (l.b ≤ l.n) × Upto (Cell l.m l.i l.j l.c) l.m l.n l.r (l.a * 17 + l.b)
+
+abbrev pub decreases-loop-b : goal.decreases-loop-b
+decreases-loop-b l = l.n - l.b
+
+abbrev pub invariant-loop-a : goal.invariant-loop-a
+invariant-loop-a l = (l.a ≤ l.n) × Upto (Cell l.m l.i l.j l.c) l.m l.n l.r (l.a * 17)
+
+abbrev pub decreases-loop-a : goal.decreases-loop-a
+decreases-loop-a l = l.n - l.a

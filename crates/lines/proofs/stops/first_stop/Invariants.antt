@@ -1,0 +1,16 @@
+-- What the loops of `first_stop` keep, and how they end.
+use borrow.Author.Rules.{rules}
+use native.Mathlib.Omega.{arith}
+use Prim.Native.Nat.{◌+◌, ◌-◌}
+use mathlib.Core.Path.{◌≡◌, sym, ◌∙◌}
+use lib.ListN.{length, drop}
+use Rattle.meaning.specs.Text.Records.{first_stop}
+use Rattle.lines.proofs.Laws.Stops.{stop_here, stop_later, stop_none}
+use Rattle.lines.proofs.stops.first_stop.Given as goal
+
+-- Assumes nothing.
+abbrev pub invariant-loop-i : goal.invariant-loop-i
+invariant-loop-i l = l.i + first_stop (drop l.i l.s) ≡ first_stop l.s
+
+abbrev pub decreases-loop-i : goal.decreases-loop-i
+decreases-loop-i l = length l.s - l.i

@@ -1,0 +1,16 @@
+-- What the loops of `write_fields` keep, and how they end.
+use borrow.Author.Rules.{rules}
+use native.Mathlib.Omega.{arith}
+use Prim.Native.Nat.{◌-◌, ◌<◌, ◌≤◌}
+use mathlib.Core.Path.{◌≡◌, refl, ◌∙◌}
+use lib.ListN.{length, length-set}
+use Rattle.lines.specs.Put.{Put}
+use Rattle.lines.proofs.Laws.Putting.{front, front_none, field_room, end_room, put_nothing, put_field_more, put_line_feed}
+use Rattle.lines.proofs.writing.write_fields.Given as goal
+
+-- Assumes nothing.
+abbrev pub invariant-loop-k : goal.invariant-loop-k
+invariant-loop-k l = (l.k ≤ l.n) × (length l.buf ≡ length l.initial.buf) × Put l.initial.buf l.at (front l.below l.numbers l.k) l.buf l.p
+
+abbrev pub decreases-loop-k : goal.decreases-loop-k
+decreases-loop-k l = l.n - l.k

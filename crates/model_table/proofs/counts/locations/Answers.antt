@@ -1,0 +1,9 @@
+-- `locations` meets its contract.
+use mathlib.Core.Path.{◌∙◌}
+use Rattle.model_table.proofs.CountLaws.{locations_count}
+use borrow.Author.Rules.{rules}
+use Rattle.model_table.proofs.counts.locations.Goals as goal
+
+-- src/counts.rt:40:1
+pub returns : goal.returns
+returns c = c.count_from.ensures ∙ locations_count _

@@ -1,0 +1,9 @@
+-- `tasks` meets its contract.
+use mathlib.Core.Path.{◌∙◌}
+use Rattle.model_table.proofs.CountLaws.{tasks_count}
+use borrow.Author.Rules.{rules}
+use Rattle.model_table.proofs.counts.tasks.Goals as goal
+
+-- src/counts.rt:33:1
+pub returns : goal.returns
+returns c = c.count_from.ensures ∙ tasks_count _

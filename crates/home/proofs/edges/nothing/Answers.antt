@@ -1,0 +1,7 @@
+-- `home::edges::nothing` meets its contract.
+use Rattle.home.proofs.EdgeLaws.{lists_none}
+use Rattle.home.proofs.edges.nothing.Goals as goal
+
+-- Assumes nothing.
+pub returns : goal.returns
+returns c = lists_none

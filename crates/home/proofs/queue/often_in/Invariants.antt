@@ -1,0 +1,16 @@
+-- What the loops of `often_in` keep, and how they end.
+use mathlib.Core.Path.{sym}
+use Prim.Native.Nat.{◌-◌, ◌≤◌}
+use lib.ListN.{get_or, take}
+use lib.Seq.{get_or-take, length-take-le}
+use Rattle.home.proofs.QueueLaws.{Met, met_start, met_more, met_end}
+use borrow.Author.Rules.{rules}
+use native.Mathlib.Omega.{arith}
+use Rattle.home.proofs.queue.often_in.Given as goal
+
+-- Assumes nothing.
+abbrev pub invariant-loop-k : goal.invariant-loop-k
+invariant-loop-k l = (l.r ≤ l.k) × (l.r ≤ l.to) × Met l.task (take l.to l.tasks) l.from l.k l.r
+
+abbrev pub decreases-loop-k : goal.decreases-loop-k
+decreases-loop-k l = l.to - l.k

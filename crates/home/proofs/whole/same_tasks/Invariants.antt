@@ -1,0 +1,16 @@
+-- What the loops of `same_tasks` keep, and how they end.
+use mathlib.Core.Path.{◌≡◌, refl}
+use Prim.Native.Nat.{◌-◌, ◌≤◌}
+use lib.ListN.{length, take}
+use Rattle.home.proofs.Walks.{is_so, is_not}
+use Rattle.home.proofs.WholeLaws.{same_more, same_not}
+use borrow.Author.Rules.{rules}
+use native.Mathlib.Omega.{arith}
+use Rattle.home.proofs.whole.same_tasks.Given as goal
+
+-- Assumes nothing.
+abbrev pub invariant-loop-k : goal.invariant-loop-k
+invariant-loop-k l = (l.k ≤ l.count) × (length l.a ≡ 6) × (length l.b ≡ 6) × (take l.k l.a ≡ take l.k l.b)
+
+abbrev pub decreases-loop-k : goal.decreases-loop-k
+decreases-loop-k l = l.count - l.k

@@ -1,0 +1,18 @@
+-- What the loops of `unused` keep, and how they end.
+use mathlib.Core.Path.{◌≡◌, refl}
+use Prim.Native.Nat.{ℕ, ◌-◌}
+use lib.Dec.{eqb}
+use lib.ListN.{length, get_or}
+use borrow.Author.Tests.{eq-eqb, ne_eqb}
+use Rattle.home.specs.ByCell.{all_zero}
+use Rattle.home.proofs.Walks.{Walk, walk_start, every_next, every_wrong, every_end}
+use borrow.Author.Rules.{rules}
+use native.Mathlib.Omega.{arith}
+use Rattle.home.proofs.whole.unused.Given as goal
+
+-- Assumes nothing.
+abbrev pub invariant-loop-k : goal.invariant-loop-k
+invariant-loop-k l = (length l.tasks ≡ 6) × Walk all_zero l.tasks l.count l.k
+
+abbrev pub decreases-loop-k : goal.decreases-loop-k
+decreases-loop-k l = 6 - l.k

@@ -1,7 +1,5 @@
 -- `bounds::broken::first_broken` meets its contract: no claim before the index that the loops have reached is broken.
-use mathlib.Core.Path.{◌≡◌, refl, sym, ◌∙◌}
-use mathlib.Core.Bool.{false}
-use Prim.Native.Nat.{◌+◌, ◌-◌, ◌*◌, ◌≤◌}
+use mathlib.Core.Path.{refl, sym, ◌∙◌}
 use native.Mathlib.Omega.{arith}
 use mir.Syntax.{w32}
 use mir.Val.{SFits}
@@ -9,7 +7,7 @@ use Rattle.bounds.proofs.Signed as S
 use Rattle.bounds.proofs.Signed.{signed}
 use Rattle.bounds.proofs.Store.{true_false, false_true}
 use Rattle.bounds.proofs.Mapping.{maps_index}
-use Rattle.bounds.proofs.Breaking.{Sound, claim_met, claim_broken, sound_step, sound_row, before_index}
+use Rattle.bounds.proofs.Breaking.{claim_met, claim_broken, sound_step, sound_row, before_index}
 use Rattle.bounds.proofs.broken.first_broken.Goals as goal
 
 pub rows-init : goal.rows-init
@@ -39,16 +37,10 @@ overflow_add-b c = omega arith
 pub loop-b-smaller : goal.loop-b-smaller
 loop-b-smaller c = omega arith
 
--- what was read fits
-module _ (c : goal.After-claimed-bound) where
-  entry_fits : SFits w32 c.reached-entry.result
-  entry_fits = record { sfits = c.reached-entry.type_inv }
-
-  bound_fits : SFits w32 c.claimed-bound.result
-  bound_fits = record { sfits = c.claimed-bound.type_inv }
-
 pub loop-b-preserved : goal.loop-b-preserved
 loop-b-preserved c =
+    let entry_fits : SFits w32 c.reached-entry.result = record { sfits = c.reached-entry.type_inv } in
+    let bound_fits : SFits w32 c.claimed-bound.result = record { sfits = c.claimed-bound.type_inv } in
     let a = c.rows.a in
     let l = c.loop-b in (
       omega arith,
@@ -57,7 +49,7 @@ loop-b-preserved c =
       l.invariant.3,
       sound_step c.args.m.now c.args.n c.args.p c.args.off c.args.claims.now c.args.start a l.b (omega arith) (omega arith) l.invariant.4
           (claim_met c.args.m.now c.args.n c.args.p c.args.off c.args.claims.now c.args.start a l.b (omega arith) (omega arith) (omega arith) c.requires.cells
-          c.reached-entry.result c.claimed-bound.result c.reached-entry.ensures c.claimed-bound.ensures (omega (signed, S.at (entry_fits (record { before = c.before.before; type_inv = c.type_inv })), S.at (bound_fits (record { before = c.before.before; type_inv = c.type_inv }))))),
+          c.reached-entry.result c.claimed-bound.result c.reached-entry.ensures c.claimed-bound.ensures (omega (signed, S.at entry_fits, S.at bound_fits))),
     )
 
 pub overflow_add-a : goal.overflow_add-a
@@ -84,12 +76,14 @@ returns-after-rows c =
 
 pub returns-then-bound-entry : goal.returns-then-bound-entry
 returns-then-bound-entry c =
+    let entry_fits : SFits w32 c.reached-entry.result = record { sfits = c.reached-entry.type_inv } in
+    let bound_fits : SFits w32 c.claimed-bound.result = record { sfits = c.claimed-bound.type_inv } in
     let a = c.rows.a in
     let l = c.loop-b in
     λ n₀ K P. record {
       inside = λ e. (omega arith, omega arith);
       here = λ e. claim_broken c.args.m.now c.args.n c.args.p c.args.off c.args.claims.now c.args.start a l.b (omega arith) (omega arith) (omega arith) c.requires.cells
-          c.reached-entry.result c.claimed-bound.result c.reached-entry.ensures c.claimed-bound.ensures (omega (signed, S.at (entry_fits (record { before = c.before.before; type_inv = c.type_inv })), S.at (bound_fits (record { before = c.before.before; type_inv = c.type_inv })))) c.requires.entries (maps_index c.args.m.now c.args.n c.args.p c.args.off c.requires.maps) n₀ K P;
+          c.reached-entry.result c.claimed-bound.result c.reached-entry.ensures c.claimed-bound.ensures (omega (signed, S.at entry_fits, S.at bound_fits)) c.requires.entries (maps_index c.args.m.now c.args.n c.args.p c.args.off c.requires.maps) n₀ K P;
       first = λ e a' b' ha hb h. l.invariant.4 a' b' ha hb (before_index a' b' a l.b (omega arith) h) n₀ P;
       nowhere = λ e. absurd (true_false e);
       zeros = λ e. absurd (true_false e);

@@ -1,15 +1,8 @@
 -- What the loops of `first_broken` keep, and how they end.
-use mathlib.Core.Path.{◌≡◌, refl, sym, ◌∙◌}
+use mathlib.Core.Path.{◌≡◌}
 use mathlib.Core.Bool.{false}
 use Prim.Native.Nat.{◌+◌, ◌-◌, ◌*◌, ◌≤◌}
-use native.Mathlib.Omega.{arith}
-use mir.Syntax.{w32}
-use mir.Val.{SFits}
-use Rattle.bounds.proofs.Signed as S
-use Rattle.bounds.proofs.Signed.{signed}
-use Rattle.bounds.proofs.Store.{true_false, false_true}
-use Rattle.bounds.proofs.Mapping.{maps_index}
-use Rattle.bounds.proofs.Breaking.{Sound, claim_met, claim_broken, sound_step, sound_row, before_index}
+use Rattle.bounds.proofs.Breaking.{Sound}
 use Rattle.bounds.proofs.broken.first_broken.Given as goal
 
 -- Assumes nothing.

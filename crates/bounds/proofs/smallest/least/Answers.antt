@@ -1,11 +1,9 @@
 -- `bounds::smallest::least` meets its contract.
 use mathlib.Core.Path.{◌≡◌}
-use Prim.Native.Nat.{ℕ, ◌+◌, ◌-◌, ◌<◌, ◌≤◌}
+use Prim.Native.Nat.{◌+◌}
 use native.Mathlib.Omega.{arith}
-use lib.ListN.{length}
 use borrow.Author.Rules.{rules}
 use Rattle.bounds.specs.Matrix.{at, Entry}
-use Rattle.bounds.specs.Images.{var}
 use Rattle.meaning.specs.Numbers.{over, under}
 use Rattle.bounds.proofs.Signed.{back, eq_read}
 use Rattle.bounds.proofs.Store.{entry_fits, stored_n, beyond_n, zeros}
@@ -17,14 +15,11 @@ loop-k-init c = (omega arith, search rules, λ q h. absurd (omega arith), λ q h
 pub get-z-requires : goal.get-z-requires
 get-z-requires c = omega arith
 
--- what was read
-entry : (c : goal.After-get-z) → Entry c.get-z.result
-entry c = c.get-z.ensures.entry c.requires.entries.0
-
 pub negated-requires : goal.negated-requires
 negated-requires c =
     let l = c.requires.entries.1.row c.loop-k.k (omega arith) in
-    rw (back _ (entry_fits (entry c))) (entry c, omega (arith, eq_read c.get-z.ensures.is))
+    let e : Entry c.get-z.result = c.get-z.ensures.entry c.requires.entries.0 in
+    rw (back _ (entry_fits e)) (e, omega (arith, eq_read c.get-z.ensures.is))
 
 pub loop-k-smaller : goal.loop-k-smaller
 loop-k-smaller c = omega arith
@@ -32,7 +27,8 @@ loop-k-smaller c = omega arith
 pub loop-k-preserved : goal.loop-k-preserved
 loop-k-preserved c =
     let l = c.loop-k in
-    let h = rw (back _ (entry_fits (entry (record { before = c.before.before; type_inv = c.type_inv }))), c.get-z.ensures.is) at c.negated.ensures in
+    let e : Entry c.get-z.result = c.get-z.ensures.entry c.requires.entries.0 in
+    let h = rw (back _ (entry_fits e), c.get-z.ensures.is) at c.negated.ensures in
     (omega arith, search rules, stored_n (λ q z. z + over (at c.args.m.now 0 q) ≡ under (at c.args.m.now 0 q)) l.r l.k c.negated.result (omega arith) l.invariant.2 h, beyond_n l.r l.k c.negated.result l.invariant.3)
 
 pub returns : goal.returns

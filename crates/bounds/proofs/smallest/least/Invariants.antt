@@ -1,14 +1,10 @@
 -- What the loops of `least` keep, and how they end.
 use mathlib.Core.Path.{◌≡◌}
 use Prim.Native.Nat.{ℕ, ◌+◌, ◌-◌, ◌<◌, ◌≤◌}
-use native.Mathlib.Omega.{arith}
 use lib.ListN.{length}
-use borrow.Author.Rules.{rules}
-use Rattle.bounds.specs.Matrix.{at, Entry}
+use Rattle.bounds.specs.Matrix.{at}
 use Rattle.bounds.specs.Images.{var}
 use Rattle.meaning.specs.Numbers.{over, under}
-use Rattle.bounds.proofs.Signed.{back, eq_read}
-use Rattle.bounds.proofs.Store.{entry_fits, stored_n, beyond_n, zeros}
 use Rattle.bounds.proofs.smallest.least.Given as goal
 
 -- Assumes nothing.

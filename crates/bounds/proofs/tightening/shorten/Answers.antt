@@ -1,13 +1,8 @@
 -- `bounds::tightening::shorten` meets its contract. Both loops have one invariant, over the index k = a * 17 + b that is reached.
-use mathlib.Core.List.{List}
-use lib.IntN.{ℤ}
-use Prim.Native.Nat.{ℕ, ◌+◌, ◌-◌, ◌*◌, ◌≤◌}
+use Prim.Native.Nat.{◌+◌, ◌*◌}
 use native.Mathlib.Omega.{arith}
 use borrow.Author.Rules.{rules}
-use mir.Syntax.{w32}
-use mir.Val.{to_z}
-use Rattle.bounds.specs.Matrix.{at, Entry}
-use Rattle.bounds.specs.Inner.{Via}
+use Rattle.bounds.specs.Matrix.{Entry}
 use Rattle.bounds.proofs.Signed.{back, rd}
 use Rattle.bounds.proofs.Store.{entry_fits}
 use Rattle.bounds.proofs.Grid as G
@@ -32,21 +27,13 @@ get-x-requires c = omega arith
 pub get-z-requires : goal.get-z-requires
 get-z-requires c = omega arith
 
--- what was read may be stored
-module _ (c : goal.After-get-z) where
-  x-entry : Entry c.get-x.result
-  x-entry = c.get-x.ensures.entry c.requires.entries
-
-  y-entry : Entry c.get-y.result
-  y-entry = c.get-y.ensures.entry c.requires.entries
-
-  z-entry : Entry c.get-z.result
-  z-entry = c.get-z.ensures.entry c.requires.entries
-
 pub shorter-requires : goal.shorter-requires
 shorter-requires c =
-    rw (back _ (entry_fits (x-entry c)), back _ (entry_fits (y-entry c)), back _ (entry_fits (z-entry c)), back _ c.ranges.c)
-    (record { entry = (x-entry c, y-entry c, c.requires.entry.0, z-entry c); finite = c.requires.entry.1 })
+    let x-entry : Entry c.get-x.result = c.get-x.ensures.entry c.requires.entries in
+    let y-entry : Entry c.get-y.result = c.get-y.ensures.entry c.requires.entries in
+    let z-entry : Entry c.get-z.result = c.get-z.ensures.entry c.requires.entries in
+    rw (back _ (entry_fits x-entry), back _ (entry_fits y-entry), back _ (entry_fits z-entry), back _ c.ranges.c)
+    (record { entry = (x-entry, y-entry, c.requires.entry.0, z-entry); finite = c.requires.entry.1 })
 
 pub loop-b-smaller : goal.loop-b-smaller
 loop-b-smaller c = omega arith
@@ -55,7 +42,10 @@ pub loop-b-preserved : goal.loop-b-preserved
 loop-b-preserved c =
     let l = c.loop-b in
     let a = c.loop-a.a in
-    let v = rw (back _ (entry_fits (x-entry (record { before = c.before.before; type_inv = c.type_inv }))), back _ (entry_fits (y-entry (record { before = c.before.before; type_inv = c.type_inv }))), back _ (entry_fits (z-entry (record { before = c.before.before; type_inv = c.type_inv }))), c.get-x.ensures.is, c.get-y.ensures.is, c.get-z.ensures.is) at c.shorter.ensures in (
+    let x-entry : Entry c.get-x.result = c.get-x.ensures.entry c.requires.entries in
+    let y-entry : Entry c.get-y.result = c.get-y.ensures.entry c.requires.entries in
+    let z-entry : Entry c.get-z.result = c.get-z.ensures.entry c.requires.entries in
+    let v = rw (back _ (entry_fits x-entry), back _ (entry_fits y-entry), back _ (entry_fits z-entry), c.get-x.ensures.is, c.get-y.ensures.is, c.get-z.ensures.is) at c.shorter.ensures in (
       omega arith,
       G.step (Cell c.args.m c.args.i c.args.j (rd c.args.c)) c.args.m c.args.n l.r a l.b (rd c.shorter.result) (omega arith) (omega arith) (omega arith) l.invariant.1
           (rw (back c.shorter.result (record { sfits = c.shorter.type_inv })) v),

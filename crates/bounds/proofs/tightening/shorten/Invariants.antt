@@ -2,15 +2,8 @@
 use mathlib.Core.List.{List}
 use lib.IntN.{ℤ}
 use Prim.Native.Nat.{ℕ, ◌+◌, ◌-◌, ◌*◌, ◌≤◌}
-use native.Mathlib.Omega.{arith}
-use borrow.Author.Rules.{rules}
-use mir.Syntax.{w32}
-use mir.Val.{to_z}
-use Rattle.bounds.specs.Matrix.{at, Entry}
+use Rattle.bounds.specs.Matrix.{at}
 use Rattle.bounds.specs.Inner.{Via}
-use Rattle.bounds.proofs.Signed.{back, rd}
-use Rattle.bounds.proofs.Store.{entry_fits}
-use Rattle.bounds.proofs.Grid as G
 use Rattle.bounds.proofs.Grid.{Upto}
 use Rattle.bounds.proofs.tightening.shorten.Given as goal
 

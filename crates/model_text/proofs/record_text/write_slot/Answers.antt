@@ -1,0 +1,52 @@
+-- `write_slot` meets its contract.
+use borrow.Author.Rules.{rules}
+use Prim.Native.Nat.{ℕ}
+use native.Mathlib.Omega.{arith}
+use mathlib.Core.Path.{◌≡◌, sym, ap, ◌∙◌}
+use mathlib.Core.List.{List, ◌∷◌}
+use lib.ListN.{length, length-set}
+use borrow.Author.Tests.{not-true, not-false}
+use Rattle.meaning.specs.Text.Lines.{fields_text}
+use Rattle.meaning.specs.Text.ModelText.{form}
+use Rattle.meaning.specs.Text.ModelReader.{line, get}
+use Rattle.lines.specs.Put.{firsts}
+use Rattle.lines.proofs.Laws.Putting.{put_nothing}
+use Rattle.model_text.specs.Numbered.{mark_no}
+use Rattle.model_text.proofs.Laws.Entering.{ends_few}
+use Rattle.model_text.proofs.Laws.Slots.{line_other, line_none, line_some, mark_zero, not_zero, goes, fields_are, put_two}
+use Rattle.model_text.proofs.record_text.write_slot.Goals as goal
+
+pub returns-then-q-eq0 : goal.returns-then-q-eq0
+returns-then-q-eq0 c =
+    let a = c.args in
+    rw (line_other a.t.now a.j (sym c.mark_at-q.ensures.is ∙ mark_zero _ c.if-q-eq0.true)) (put_nothing _ _)
+
+pub returns-then-not-is_there : goal.returns-then-not-is_there
+returns-then-not-is_there c =
+    let a = c.args in
+    rw (line_none a.t.now a.j (sym c.is_there.ensures ∙ not-true _ c.if-not-is_there.true-raw)) (put_nothing _ _)
+
+pub bounds-buf-at : goal.bounds-buf-at
+bounds-buf-at c =
+    let h = c.requires.2 in
+    omega (arith, ap length (whole c.before.before))
+
+pub bounds-buf-at-2 : goal.bounds-buf-at-2
+bounds-buf-at-2 c =
+    let h = c.requires.2 in
+    simp length-set (omega (arith, ap length (whole c.before.before.before)))
+
+pub write_fields-requires : goal.write_fields-requires
+write_fields-requires c =
+    let h = c.requires.2 in
+    let r = c.ranges_of-g.ensures in
+    let n = ends_few (mark_no c.mark_at-q.result) c.args.t.now in
+    (omega (arith, r.many), simp length-set (omega (arith, ap length (whole c.before.before.before.before))))
+
+pub shape_of-buf : goal.shape_of-buf
+shape_of-buf c = c.write_fields.auto.buf ∙ simp length-set
+
+pub returns : goal.returns
+returns c =
+    let a = c.args in
+    rw (whole c.before.before.before.before.before.before.before, sym c.first_byte.ensures, sym c.second_byte.ensures) (put_two a.buf.now a.at _ _ _ _ _ c.write_fields.ensures)

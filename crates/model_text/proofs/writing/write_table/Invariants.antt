@@ -1,0 +1,20 @@
+-- What the loops of `write_table` keep, and how they end.
+use borrow.Author.Rules.{rules}
+use native.Mathlib.Omega.{arith}
+use Prim.Native.Nat.{◌+◌, ◌-◌, ◌<◌, ◌≤◌}
+use mathlib.Core.Path.{◌≡◌, refl, ◌∙◌}
+use lib.ListN.{length, length-set}
+use Rattle.meaning.specs.Text.Records.{lines_to}
+use Rattle.meaning.specs.Text.ModelTable.{size}
+use Rattle.meaning.specs.Text.ModelReader.{format}
+use Rattle.lines.specs.Put.{Put}
+use Rattle.lines.proofs.Laws.Putting.{put_nothing}
+use Rattle.model_text.proofs.Laws.Writing.{lines_none, end_room, slot_room, put_slot, put_last}
+use Rattle.model_text.proofs.writing.write_table.Given as goal
+
+-- Assumes nothing.
+abbrev pub invariant-loop-j : goal.invariant-loop-j
+invariant-loop-j l = (l.j ≤ size) × (length l.buf ≡ length l.initial.buf) × Put l.initial.buf 0 (lines_to format l.t l.j) l.buf l.at
+
+abbrev pub decreases-loop-j : goal.decreases-loop-j
+decreases-loop-j l = size - l.j

@@ -1,0 +1,17 @@
+-- What the loops of `with_variable` keep, and how they end.
+use mathlib.Core.Path.{◌≡◌}
+use Prim.Native.Nat.{ℕ, suc, ◌-◌, ◌<◌, ◌≤◌}
+use native.Mathlib.Omega.{arith}
+use borrow.Author.Rules.{rules}
+use lib.ListN.{length, get_or, take}
+use Rattle.meaning.specs.Lists.{insert_at}
+use Rattle.home.proofs.OrderLaws.{zeros, stored, beyond, new_order}
+use Rattle.slots.proofs.variables.with_variable.Given as goal
+
+-- Assumes nothing.
+abbrev pub invariant-loop-k : goal.invariant-loop-k
+invariant-loop-k l =
+    (l.k ≤ suc l.count) × (length l.r ≡ 6) × ((q : ℕ) → q < l.k → get_or l.r q 0 ≡ get_or (insert_at l.ahead l.new (take l.count l.variables)) q 0) × ((q : ℕ) → l.k ≤ q → get_or l.r q 0 ≡ 0)
+
+abbrev pub decreases-loop-k : goal.decreases-loop-k
+decreases-loop-k l = suc l.count - l.k

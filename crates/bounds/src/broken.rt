@@ -14,7 +14,7 @@ use crate::matrix::{Matrix, NONE};
 pub const BIAS: i32 = 32_001;
 
 // The first broken bound, (i, j); where none is, both are 0.
-#[derive(Drop)]
+#[derive(Clone, Copy)]
 pub struct Broken {
     pub found: bool,
     pub i: usize,

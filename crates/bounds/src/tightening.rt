@@ -8,7 +8,7 @@ ghost use Rattle.bounds.specs.Inner.{Via, Shortened};
 use crate::matrix::{Matrix, NONE, get};
 
 // What a bound makes of a matrix: the solutions that meet it, or that there is none.
-#[derive(Drop)]
+#[derive(Clone, Copy)]
 pub struct Tight {
     pub empty: bool,
     pub m: Matrix,

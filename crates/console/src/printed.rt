@@ -8,7 +8,7 @@ use crate::room::write_line;
 use crate::told::Told;
 
 // What the writer answers: done, with the length of the line; or a refusal number and its place.
-#[derive(Drop)]
+#[derive(Clone, Copy)]
 pub enum Written {
     Done(usize),
     Refused(u32, usize),

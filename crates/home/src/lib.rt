@@ -18,7 +18,7 @@ pub use whole::{is_home, same_home};
 pub type Tasks = [u32; 6];
 
 // A location with a queue order, head first; tasks behind the queue are 0.
-#[derive(Drop)]
+#[derive(Clone, Copy)]
 pub struct Home {
     pub location: u32,
     pub tasks: Tasks,
@@ -29,7 +29,7 @@ pub struct Home {
 pub type JobsAhead = [usize; 4];
 
 // Tasks that are released one after the other; behind them 0.
-#[derive(Drop)]
+#[derive(Clone, Copy)]
 pub struct Releases {
     pub tasks: [u32; 4],
     pub count: u32,

@@ -13,7 +13,7 @@ pub type Numbers = [u32; 3];
 
 // What the fields of a line come to. Refusal 0: the numbers as they are kept, and the place after the line. Refusal 4: the first byte that can't go
 // on. Refusal 5: the first byte of the first number outside its range. Where it is refused the numbers are all 0.
-#[derive(Drop)]
+#[derive(Clone, Copy)]
 pub struct Line {
     pub refusal: u32,
     pub at: usize,

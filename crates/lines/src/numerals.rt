@@ -8,7 +8,7 @@ ghost use Rattle.lines.specs.Meant.{meant};
 pub const TOO_LARGE: u32 = 1000000;
 
 // What reading a number comes to: whether it has a minus, its size and the place after it; or the first byte that can't go on.
-#[derive(Drop)]
+#[derive(Clone, Copy)]
 pub enum Number {
     Num { minus: bool, size: u32, next: usize },
     Stuck(usize),

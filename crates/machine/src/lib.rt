@@ -16,7 +16,7 @@ pub use queue::tasks_of;
 pub use stepping::start_given;
 
 // A job: its task, the ticks of work done, and its age in ticks since release.
-#[derive(Drop)]
+#[derive(Clone, Copy)]
 pub struct Job {
     pub task: u32,
     pub done: u32,
@@ -27,7 +27,7 @@ pub struct Job {
 pub type Jobs = [Job; 6];
 
 // A state: a location, the clock values, and a queue, head first. Unused cells are 0.
-#[derive(Drop)]
+#[derive(Clone, Copy)]
 pub struct State {
     pub location: u32,
     pub clocks: [u32; 4],
@@ -36,7 +36,7 @@ pub struct State {
 }
 
 // What a step came to: it went; a miss, with the first position at fault; an overflow; or a refusal's number.
-#[derive(Drop)]
+#[derive(Clone, Copy)]
 pub enum Outcome {
     Went,
     Missed(u32),
@@ -45,14 +45,14 @@ pub enum Outcome {
 }
 
 // A step's reply: what it came to, and the state after it.
-#[derive(Drop)]
+#[derive(Clone, Copy)]
 pub struct Reply {
     pub outcome: Outcome,
     pub state: State,
 }
 
 // The place of a new job in a lent list: its position; an overflow; or a refusal's number.
-#[derive(Drop)]
+#[derive(Clone, Copy)]
 pub enum Placed {
     At(usize),
     Overflowed,

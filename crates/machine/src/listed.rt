@@ -13,7 +13,7 @@ use super::{Job, Placed};
 use home::{Releases, Tasks};
 
 // What a walk over the jobs has found up to a place: whether all is right so far, the jobs' tasks, and which jobs are beaten.
-#[derive(Drop)]
+#[derive(Clone, Copy)]
 pub struct Seen {
     pub good: bool,
     pub tasks: Tasks,

@@ -11,7 +11,7 @@ use crate::records::Taken;
 use crate::{records, tables};
 
 // What a reader answers: done, with what it has read in the lent table; or a refusal number and its place.
-#[derive(Drop)]
+#[derive(Clone, Copy)]
 pub enum Read {
     Done,
     Refused(u32, usize),

@@ -14,7 +14,7 @@ ghost use Rattle.model_text.specs.Meant.{Stepped};
 use crate::{marks, rules};
 
 // What became of a record: the place after it and the next cursor, when it was entered; the text's end; or a refusal and its place.
-#[derive(Drop)]
+#[derive(Clone, Copy)]
 pub enum Taken {
     Next { at: usize, cursor: usize },
     End,

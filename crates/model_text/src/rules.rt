@@ -22,7 +22,7 @@ const TIME_MOST: u32 = 10000;
 const PRIO_MOST: u32 = 6;
 
 // The ranges of a record's numbers: how many they are, how far each goes below 0, and its ends as they are kept.
-#[derive(Drop)]
+#[derive(Clone, Copy)]
 pub struct Ranges {
     pub n: usize,
     pub below: [u32; 3],

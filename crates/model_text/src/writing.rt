@@ -13,7 +13,7 @@ use crate::reading::Read;
 use crate::{reading, record_text, tables};
 
 // What a writer answers: done, with the length of the text; or a refusal number and its place.
-#[derive(Drop)]
+#[derive(Clone, Copy)]
 pub enum Written {
     Done(usize),
     Refused(u32, usize),

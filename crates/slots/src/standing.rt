@@ -10,7 +10,7 @@ use crate::variables::Variables;
 use home::Home;
 
 // For each position of a queue: its task, the variable of its running sum, and that of its age.
-#[derive(Drop)]
+#[derive(Clone, Copy)]
 pub struct Slots {
     pub tasks: [u32; 6],
     pub sums: Variables,

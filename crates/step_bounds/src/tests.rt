@@ -13,7 +13,7 @@ use model_table::{deadline, policy, priority, work};
 use zone_bounds::{less, narrow, negated};
 
 // It holds of every valuation, of none, or where the first variable minus the second is at most a number.
-#[derive(Drop)]
+#[derive(Clone, Copy)]
 pub enum Test {
     Always,
     Never,

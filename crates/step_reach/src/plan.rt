@@ -19,7 +19,7 @@ use zone_bounds::less;
 use zone_list::{Kind, Step, ahead_of};
 
 // Variable a after the step is variable from[a] before it, with off[a] added.
-#[derive(Drop)]
+#[derive(Clone, Copy)]
 pub struct Plan {
     pub home: Home,
     pub variables: usize,

@@ -17,7 +17,7 @@ use zone_list::Step;
 
 // A refusal's number, or 0; whether no state takes the step; location and queue order after it; the
 // tightest bounds, that on variable i minus variable j at i * 17 + j.
-#[derive(Drop)]
+#[derive(Clone, Copy)]
 pub struct StepReply {
     pub refusal: u32,
     pub empty: bool,

@@ -3,7 +3,7 @@ use machine::State;
 
 // The kind by which an obligation fails: a miss with its position, an overflow, a claim of 0, a claimed
 // zone elsewhere, a broken bound by its two variables; or no kind applies.
-#[derive(Drop)]
+#[derive(Clone, Copy)]
 pub enum Fault {
     Nothing,
     Late(u32),
@@ -14,7 +14,7 @@ pub enum Fault {
 }
 
 // What is found of one obligation: the fault, and the smallest state at fault; without one a state of nothing.
-#[derive(Drop)]
+#[derive(Clone, Copy)]
 pub struct Found {
     pub fault: Fault,
     pub state: State,
@@ -22,7 +22,7 @@ pub struct Found {
 
 // What is found of a zone's obligations: how many are tried so far, those of the zones before it too, and
 // the place of the last one, with what is found of it.
-#[derive(Drop)]
+#[derive(Clone, Copy)]
 pub struct Tried {
     pub number: u32,
     pub place: u32,
@@ -31,7 +31,7 @@ pub struct Tried {
 
 // A refusal's number, or 0; the number of obligations tried, or of the one that fails; its zone, its
 // place, its fault, and the smallest state at fault. What says nothing is 0.
-#[derive(Drop)]
+#[derive(Clone, Copy)]
 pub struct Answer {
     pub refusal: u32,
     pub number: u32,

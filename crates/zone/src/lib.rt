@@ -15,14 +15,14 @@ use making::{exactly_given, not_made, widest_given};
 use model_text::is_model;
 
 // The bound on variable i minus variable j stands at i * 17 + j. Bounds that are not written are `NO_BOUND`.
-#[derive(Drop)]
+#[derive(Clone, Copy)]
 pub struct Zone {
     pub home: Home,
     pub bounds: [i32; 289],
 }
 
 // A zone that was made, or the number of the refusal and a zone of nothing.
-#[derive(Drop)]
+#[derive(Clone, Copy)]
 pub struct Made {
     pub refusal: u32,
     pub zone: Zone,

@@ -14,7 +14,7 @@ use crate::form::one_less;
 use home::{Home, Releases, Tasks, first_place, with_new};
 
 // How many jobs are ahead of a new one in the choice that is looked for, and how many choices with as many ahead are before it.
-#[derive(Drop)]
+#[derive(Clone, Copy)]
 pub(crate) struct Ahead {
     pub ahead: usize,
     pub rest: usize,

@@ -7,7 +7,7 @@ use home::JobsAhead;
 pub type Positions = [u32; 4];
 
 // What a step asks: a tick at which the head goes on, or finishes; or an edge, by its number in the file.
-#[derive(Drop)]
+#[derive(Clone, Copy)]
 pub enum Kind {
     GoOn,
     Finish,
@@ -15,7 +15,7 @@ pub enum Kind {
 }
 
 // An edge has one position for each task that it releases, as each comes in; none where nothing is released or the release overflows.
-#[derive(Drop)]
+#[derive(Clone, Copy)]
 pub struct Step {
     pub kind: Kind,
     pub positions: Positions,
@@ -23,7 +23,7 @@ pub struct Step {
 }
 
 // How many steps the list has, and whether the claims are 0 where 0 is due.
-#[derive(Drop)]
+#[derive(Clone, Copy)]
 pub struct Steps {
     pub many: usize,
     pub zeros: bool,

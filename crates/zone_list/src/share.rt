@@ -14,7 +14,7 @@ use crate::{Kind, Step};
 use home::{Home, released_by};
 
 // What an edge adds to the list: how many places, and whether the claim of the first has to be 0.
-#[derive(Drop)]
+#[derive(Clone, Copy)]
 pub(crate) struct Share {
     pub places: usize,
     pub zero: bool,

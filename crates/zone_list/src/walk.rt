@@ -12,14 +12,14 @@ use home::Home;
 use model_table::{cell, edges};
 
 // The edge that has a place, and how many of the edge's places are before it; edge 0: none has it so far.
-#[derive(Drop)]
+#[derive(Clone, Copy)]
 pub(crate) struct Found {
     pub edge: u32,
     pub rest: usize,
 }
 
 // What a walk finds.
-#[derive(Drop)]
+#[derive(Clone, Copy)]
 pub(crate) struct Walked {
     pub many: usize,
     pub zeros: bool,

@@ -13,7 +13,7 @@ use crate::reading_records;
 use crate::reading_records::{Sofar, Taken};
 
 // What a reader answers: done, with what it has read in the lent table; or a refusal number and its place.
-#[derive(Drop)]
+#[derive(Clone, Copy)]
 pub enum Read {
     Done,
     Refused(u32, usize),

@@ -12,7 +12,7 @@ use zone_table::{POOL_SIZE, POOL_START, bounds_start, head_start, home_with, up_
 
 // What was read so far: how many zones are whole; whether one is begun, whose GO is due, with how many tasks in its queue, and the first place in
 // its bounds at which the next may stand; how many claims there are in all.
-#[derive(Drop)]
+#[derive(Clone, Copy)]
 pub(crate) struct Sofar {
     pub zones: u32,
     pub due: bool,
@@ -22,7 +22,7 @@ pub(crate) struct Sofar {
 }
 
 // What became of a record: the place after it and what was read with it; the text's end; or a refusal and its place.
-#[derive(Drop)]
+#[derive(Clone, Copy)]
 pub(crate) enum Taken {
     Next(usize, Sofar),
     End,

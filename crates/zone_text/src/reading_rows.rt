@@ -11,7 +11,7 @@ const BOUND_MOST: u32 = 32000;
 
 // What a row of numbers comes to. Refusal 0: how many they are, and the place after the line. Refusal 4: the first byte that can't go on. Refusal
 // 5: the first byte of the first number outside its range.
-#[derive(Drop)]
+#[derive(Clone, Copy)]
 pub struct Row {
     pub refusal: u32,
     pub at: usize,
@@ -19,7 +19,7 @@ pub struct Row {
 }
 
 // The numbers of a bound, c with 32,000 added; or a refusal, with all of them 0.
-#[derive(Drop)]
+#[derive(Clone, Copy)]
 pub struct Bound {
     pub refusal: u32,
     pub at: usize,

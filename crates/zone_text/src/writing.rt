@@ -20,7 +20,7 @@ use zone_table::{
 };
 
 // What a writer answers: done, with the length of the text; or a refusal number and its place.
-#[derive(Drop)]
+#[derive(Clone, Copy)]
 pub enum Written {
     Done(usize),
     Refused(u32, usize),

@@ -3,14 +3,18 @@ use borrow.Author.Rules.{rules}
 use Prim.Native.Nat.{ℕ, ◌+◌, ◌≤◌}
 use mathlib.Core.Path.{◌≡◌, refl, sym, ap, ◌∙◌, subst}
 use mathlib.Core.List.{List}
+use mathlib.Core.Bool.{true}
 use native.Mathlib.Omega.{arith}
 use borrow.Author.Tests.{not-true, not-false}
-use lib.Seq.{sets}
-use Rattle.meaning.specs.Text.Lines.{Range, ok, fields}
-use Rattle.meaning.specs.Text.ModelReader.{rule, judge, look}
+use lib.ListN.{get_or}
+use Rattle.meaning.specs.Text.Lines.{Range, fields}
+use Rattle.meaning.specs.Text.ModelText.{Mark}
+use Rattle.meaning.specs.Text.ModelReader.{mark_of, rule, judge, look}
 use Rattle.meaning.proofs.Text.ModelLaws.{tame}
-use Rattle.lines.specs.Meant.{no_numbers, Told}
-use Rattle.model_text.specs.Numbered.{mark_no}
+use Rattle.lines.specs.Meant.{Told, ranges}
+use Rattle.lines.specs.declared.fields.Line.{Line}
+use Rattle.model_text.specs.Numbered.{mark_no, RangesAre}
+use Rattle.model_text.specs.declared.rules.Ranges.{Ranges}
 use Rattle.model_text.proofs.Laws.Entering.{ends_few, ranges_are, ranges_tame}
 use Rattle.model_text.proofs.Laws.Taking.{look_as, look_not_due, look_late, look_full, look_judge, told_refused, told_ok, judge_more, judge_end, closes_nine, Line-read, enters, judge_as}
 use Rattle.model_text.proofs.Laws.Numbering.{goes_on}
@@ -47,52 +51,89 @@ read_line-line-requires c =
     let n = ends_few q a.t.now in
     (omega (arith, r.many), ranges_tame (rule q a.t.now).ends _ (tame q a.t.now c.requires.1) n r)
 
-told : (c : goal.Then-line-gt0) →
-    Told (fields (rule (mark_no c.mark-q.result) c.args.t.now).ends c.args.s.now (c.args.at + 2)) c.read_line-line.result
-told c =
-    let a = c.args in
-    let q = mark_no c.mark-q.result in
-    subst (λ (es : List Range). Told (fields es a.s.now (a.at + 2)) c.read_line-line.result)
-    (ranges_are (rule q a.t.now).ends _ (ends_few q a.t.now) c.ranges_of-g.ensures) c.read_line-line.ensures
+-- the record as far as its line was read
+judged : (q : Mark) (s : List ℕ) (at i : ℕ) (t : List ℕ) (last : ℕ) → q ≡ mark_of (get_or s at 0) (get_or s (at + 1) 0) → (rule q t).due ≡ true → last ≡ (rule q t).latest → i ≤ last → (rule q t).room ≡ true
+    → look s at i t ≡ judge q s at i t (fields (rule q t).ends s (at + 2))
+judged q s at i t last e d l k r = look_as q s at i t e ∙ look_judge q s at i t d (omega arith) r
+
+-- what its line came to
+told : (q : Mark) (t s : List ℕ) (at : ℕ) (r : Ranges) (l : Line) → RangesAre (rule q t).ends r → Told (fields (ranges r.below r.low r.high 0 r.n) s at) l → Told (fields (rule q t).ends s at) l
+told q t s at r l a h = subst (λ (es : List Range). Told (fields es s at) l) (ranges_are (rule q t).ends _ (ends_few q t) a) h
 
 pub returns-then-line-gt0 : goal.returns-then-line-gt0
 returns-then-line-gt0 c =
-    rw (judged c.before.before.before ∙ told_refused _ c.read_line-line.result _ _ _ _ _ (told c) c.if-line-gt0.true) (refl, refl)
+    let a = c.args in
+    let q = mark_no c.mark-q.result in
+    let due = sym c.due.ensures ∙ not-false _ c.if-not-due.false-raw in
+    let room = sym c.room.ensures ∙ not-false _ c.if-not-room.false-raw in
+    let e = judged q a.s.now a.at a.i a.t.now _ c.mark-q.ensures due c.latest.ensures (let k = c.if-latest-i.false in omega arith) room in
+    let l = c.read_line-line.result in
+    let f = told q a.t.now a.s.now (a.at + 2) c.ranges_of-g.result l c.ranges_of-g.ensures c.read_line-line.ensures in
+    rw (e ∙ told_refused _ l q a.s.now a.at a.i a.t.now f c.if-line-gt0.true) (refl, refl)
 
 pub returns-then-line-s : goal.returns-then-line-s
 returns-then-line-s c =
-    let read : c.read_line-line.result.refusal ≤ 0
-        → (v : List ℕ) × (fields (rule (mark_no c.mark-q.result) c.args.t.now).ends c.args.s.now (c.args.at + 2) ≡ ok v c.read_line-line.result.at)
-        × (c.read_line-line.result.numbers ≡ sets no_numbers 0 v) =
-        (told_ok _ c.read_line-line.result (told c) (omega arith)) in
     let a = c.args in
     let q = mark_no c.mark-q.result in
-    let o = read c.if-line-gt0.false in
-    rw (judged c.before.before.before.before.before.before ∙ ap (judge q a.s.now a.at a.i a.t.now) o.1 ∙ judge_more q a.s.now a.at a.i a.t.now o.0 c.read_line-line.result.at (closes_nine _ c.if-q-eq9.true) c.if-line-s.true) (refl, refl)
+    let due = sym c.due.ensures ∙ not-false _ c.if-not-due.false-raw in
+    let room = sym c.room.ensures ∙ not-false _ c.if-not-room.false-raw in
+    let e = judged q a.s.now a.at a.i a.t.now _ c.mark-q.ensures due c.latest.ensures (let k = c.if-latest-i.false in omega arith) room in
+    let l = c.read_line-line.result in
+    let f = told q a.t.now a.s.now (a.at + 2) c.ranges_of-g.result l c.ranges_of-g.ensures c.read_line-line.ensures in
+    let o = told_ok _ l f (let k = c.if-line-gt0.false in omega arith) in
+    rw (e ∙ ap (judge q a.s.now a.at a.i a.t.now) o.1 ∙ judge_more q a.s.now a.at a.i a.t.now o.0 l.at (closes_nine _ c.if-q-eq9.true) c.if-line-s.true) (refl, refl)
 
 pub returns-then-q-eq9 : goal.returns-then-q-eq9
 returns-then-q-eq9 c =
-    let read : c.read_line-line.result.refusal ≤ 0
-        → (v : List ℕ) × (fields (rule (mark_no c.mark-q.result) c.args.t.now).ends c.args.s.now (c.args.at + 2) ≡ ok v c.read_line-line.result.at)
-        × (c.read_line-line.result.numbers ≡ sets no_numbers 0 v) =
-        (told_ok _ c.read_line-line.result (told c) (omega arith)) in
     let a = c.args in
     let q = mark_no c.mark-q.result in
-    let o = read c.if-line-gt0.false in
-    rw (judged c.before.before.before.before.before.before ∙ ap (judge q a.s.now a.at a.i a.t.now) o.1 ∙ judge_end q a.s.now a.at a.i a.t.now o.0 c.read_line-line.result.at (closes_nine _ c.if-q-eq9.true) c.if-line-s.false) (refl, refl)
+    let due = sym c.due.ensures ∙ not-false _ c.if-not-due.false-raw in
+    let room = sym c.room.ensures ∙ not-false _ c.if-not-room.false-raw in
+    let e = judged q a.s.now a.at a.i a.t.now _ c.mark-q.ensures due c.latest.ensures (let k = c.if-latest-i.false in omega arith) room in
+    let l = c.read_line-line.result in
+    let f = told q a.t.now a.s.now (a.at + 2) c.ranges_of-g.result l c.ranges_of-g.ensures c.read_line-line.ensures in
+    let o = told_ok _ l f (let k = c.if-line-gt0.false in omega arith) in
+    rw (e ∙ ap (judge q a.s.now a.at a.i a.t.now) o.1 ∙ judge_end q a.s.now a.at a.i a.t.now o.0 l.at (closes_nine _ c.if-q-eq9.true) c.if-line-s.false) (refl, refl)
 
 pub enter-requires : goal.enter-requires
 enter-requires c =
-    enters _ _ _ _ _ _ _ _ (line_read c.before.before.before.before.before.before c.if-line-gt0.false c.if-q-eq9.false)
+    let a = c.args in
+    let q = mark_no c.mark-q.result in
+    let due = sym c.due.ensures ∙ not-false _ c.if-not-due.false-raw in
+    let room = sym c.room.ensures ∙ not-false _ c.if-not-room.false-raw in
+    let l = c.read_line-line.result in
+    let f = told q a.t.now a.s.now (a.at + 2) c.ranges_of-g.result l c.ranges_of-g.ensures c.read_line-line.ensures in
+    let o = told_ok _ l f (let k = c.if-line-gt0.false in omega arith) in
+    let n : Line-read c.mark-q.result a.t.now a.s.now (a.at + 2) o.0 l.at l.numbers c.ranges_of-g.result.n =
+    record {
+      long = c.requires.0;
+      few = c.requires.1;
+      room = room;
+      goes = goes_on _ _ c.if-q-eq9.false due;
+      line = o.1;
+      here = o.2;
+      many = c.ranges_of-g.ensures.many;
+    } in
+    enters _ _ _ _ _ _ _ _ n
 
 pub returns : goal.returns
 returns c =
-    let read : c.read_line-line.result.refusal ≤ 0
-        → (v : List ℕ) × (fields (rule (mark_no c.mark-q.result) c.args.t.now).ends c.args.s.now (c.args.at + 2) ≡ ok v c.read_line-line.result.at)
-        × (c.read_line-line.result.numbers ≡ sets no_numbers 0 v) =
-        (told_ok _ c.read_line-line.result (told c) (omega arith)) in
     let a = c.args in
     let q = mark_no c.mark-q.result in
-    let h = c.if-line-gt0.false in
-    let o = read h in
-    rw (judged c.before.before.before.before.before.before.before.before.before ∙ ap (judge q a.s.now a.at a.i a.t.now) o.1 ∙ judge_as _ _ _ _ _ _ _ _ (line_read c.before.before.before.before.before.before.before.before.before h c.if-q-eq9.false) a.i a.at) c.enter.ensures
+    let due = sym c.due.ensures ∙ not-false _ c.if-not-due.false-raw in
+    let room = sym c.room.ensures ∙ not-false _ c.if-not-room.false-raw in
+    let e = judged q a.s.now a.at a.i a.t.now _ c.mark-q.ensures due c.latest.ensures (let k = c.if-latest-i.false in omega arith) room in
+    let l = c.read_line-line.result in
+    let f = told q a.t.now a.s.now (a.at + 2) c.ranges_of-g.result l c.ranges_of-g.ensures c.read_line-line.ensures in
+    let o = told_ok _ l f (let k = c.if-line-gt0.false in omega arith) in
+    let n : Line-read c.mark-q.result a.t.now a.s.now (a.at + 2) o.0 l.at l.numbers c.ranges_of-g.result.n =
+    record {
+      long = c.requires.0;
+      few = c.requires.1;
+      room = room;
+      goes = goes_on _ _ c.if-q-eq9.false due;
+      line = o.1;
+      here = o.2;
+      many = c.ranges_of-g.ensures.many;
+    } in
+    rw (e ∙ ap (judge q a.s.now a.at a.i a.t.now) o.1 ∙ judge_as _ _ _ _ _ _ _ _ n a.i a.at) c.enter.ensures

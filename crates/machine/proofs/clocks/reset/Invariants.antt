@@ -1,0 +1,13 @@
+-- What the loops of `reset` keep, and how they end.
+use Prim.Native.Nat.{ℕ, ◌+◌, ◌-◌, ◌≤◌, ◌<◌, ◌/◌, ◌%◌}
+use mathlib.Core.Path.{◌≡◌, refl, sym, ◌∙◌, ap}
+use Rattle.machine.proofs.ClockLaws.{Reset, reset_start, reset_more, reset_end}
+use borrow.Author.Rules.{rules}
+use native.Mathlib.Omega.{arith}
+use Rattle.machine.proofs.clocks.reset.Given as goal
+
+abbrev pub invariant-loop-k : goal.invariant-loop-k
+invariant-loop-k l = Reset l.model l.edge l.initial.r l.r l.k
+
+abbrev pub decreases-loop-k : goal.decreases-loop-k
+decreases-loop-k l = 4 - l.k

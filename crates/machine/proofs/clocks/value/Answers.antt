@@ -1,0 +1,11 @@
+-- `value` meets its contract.
+use Rattle.machine.proofs.ClockLaws.{value_at}
+use Prim.Native.Nat.{ℕ, ◌+◌, ◌-◌, ◌≤◌, ◌<◌, ◌/◌, ◌%◌}
+use mathlib.Core.Path.{◌≡◌, refl, sym, ◌∙◌, ap}
+use native.Mathlib.Omega.{arith}
+use borrow.Author.Rules.{rules}
+use Rattle.machine.proofs.clocks.value.Goals as goal
+
+-- src/clocks.rt:63:1
+pub returns-else-i-eq0 : goal.returns-else-i-eq0
+returns-else-i-eq0 c = value_at c.args.clocks c.args.i c.if-i-eq0.false

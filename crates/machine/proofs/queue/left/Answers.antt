@@ -1,0 +1,16 @@
+-- `left` meets its contract.
+use Prim.Native.Nat.{ℕ, suc, ◌+◌, ◌-◌, ◌≤◌, ◌<◌}
+use mathlib.Core.Path.{◌≡◌, refl, sym, ◌∙◌, ap, ap₂}
+use native.Mathlib.Omega.{arith}
+use mathlib.Core.Bool.{Bool}
+use Rattle.machine.specs.ByCell.{left_of}
+use borrow.Author.Rules.{rules}
+use Rattle.machine.proofs.queue.left.Goals as goal
+
+-- src/queue.rt:80:13
+pub returns-then-count-eq0 : goal.returns-then-count-eq0
+returns-then-count-eq0 c = let a = c.args in let z : 0 ≡ a.count - 1 = omega arith in z ∙ ap (left_of a.count) (sym c.if-finishes.true)
+
+-- src/queue.rt:82:9
+pub returns-then-finishes : goal.returns-then-finishes
+returns-then-finishes c = let a = c.args in ap (left_of a.count) (sym c.if-finishes.true)

@@ -1,0 +1,26 @@
+-- `machine::queue::tasks_of` meets its contract.
+use Prim.Native.Nat.{ℕ, ◌-◌}
+use mathlib.Core.Path.{◌≡◌, refl}
+use lib.ListN.{length, get_or}
+use Rattle.machine.specs.Stands.{no_job}
+use Rattle.machine.proofs.Arrays.{Filled, filled_start, filled_more}
+use Rattle.machine.proofs.QueueLaws.{tasks_filled}
+use borrow.Author.Rules.{rules}
+use native.Mathlib.Omega.{arith}
+use Rattle.machine.proofs.queue.tasks_of.Goals as goal
+
+-- src/queue.rt:174:5
+pub loop-k-init : goal.loop-k-init
+loop-k-init c = (search rules, filled_start 0 6 _ _ refl)
+
+-- src/queue.rt:174:5
+pub loop-k-preserved : goal.loop-k-preserved
+loop-k-preserved c =
+    let l = c.loop-k in
+    (l.invariant.0, filled_more 0 6 _ l.r l.k _ l.invariant.1 (omega arith) refl)
+
+-- src/queue.rt:169:1
+pub returns : goal.returns
+returns c =
+    let l = c.loop-k in
+    tasks_filled c.args.jobs l.r l.k l.invariant.0 l.invariant.1 (omega arith)

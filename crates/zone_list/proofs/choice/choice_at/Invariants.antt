@@ -1,0 +1,21 @@
+-- What the loops of `choice_at` keep, and how they end.
+use mathlib.Core.Path.{◌≡◌, refl, sym, ◌∙◌}
+use mathlib.Core.List.{[], ◌∷◌}
+use Prim.Native.Nat.{suc, ◌+◌, ◌-◌, ◌≤◌}
+use lib.ListN.{length, length-set, get_or, take}
+use lib.Seq.{get_or-take, length-take-le}
+use Rattle.bounds.proofs.Store.{zeros}
+use Rattle.meaning.specs.Lists.{insert_at}
+use Rattle.meaning.specs.Text.ModelTable.{decode}
+use Rattle.home.specs.Stands.{tasks_of}
+use Rattle.zone_list.proofs.ChosenLaws.{Choosing, choosing_start, choosing_turn, choosing_end}
+use borrow.Author.Rules.{rules}
+use native.Mathlib.Omega.{arith}
+use Rattle.zone_list.proofs.choice.choice_at.Given as goal
+
+-- Assumes nothing.
+abbrev pub invariant-loop-k : goal.invariant-loop-k
+invariant-loop-k l = (l.k ≤ l.n) × (length l.tasks ≡ 6) × (length l.new ≡ 4) × (length l.r ≡ 4) × Choosing (decode l.model) (tasks_of l.releases) (take l.count l.initial.tasks) l.rest l.k (take (l.count + l.k) l.tasks) l.left l.r
+
+abbrev pub decreases-loop-k : goal.decreases-loop-k
+decreases-loop-k l = l.n - l.k

@@ -1,0 +1,17 @@
+-- What the loops of `are_numbered` keep, and how they end.
+use mathlib.Core.Path.{◌≡◌}
+use Prim.Native.Nat.{◌-◌, ◌≤◌}
+use lib.ListN.{length}
+use Rattle.meaning.proofs.Tests.{never}
+use Rattle.home.proofs.Walks.{is_so, is_not}
+use Rattle.zone_list.proofs.FormLaws.{Checked, checked_start, checked_more, checked_not, checked_all}
+use borrow.Author.Rules.{rules}
+use native.Mathlib.Omega.{arith}
+use Rattle.zone_list.proofs.listed.are_numbered.Given as goal
+
+-- Assumes nothing.
+abbrev pub invariant-loop-k : goal.invariant-loop-k
+invariant-loop-k l = (l.k ≤ 4) × (length l.positions ≡ 4) × Checked l.count l.positions l.k
+
+abbrev pub decreases-loop-k : goal.decreases-loop-k
+decreases-loop-k l = 4 - l.k

@@ -11,6 +11,7 @@ use Rattle.bounds.proofs.Signed.{rd, signed, eq_read}
 use Rattle.zone_bounds.specs.Narrowed.{Narrows}
 use Rattle.zone_bounds.proofs.WrittenLaws.{written_to, is_below, not_below, written_first, written_next, written_same, written_all}
 use Rattle.zone_bounds.proofs.written.written.Goals as goal
+use Rattle.zone_bounds.proofs.written.written.Goals.{then-c-lt-NONE, else-c-lt-NONE}
 
 pub loop-k-init : goal.loop-k-init
 loop-k-init c = (omega arith, written_first c.args.bounds c.args.t c.requires.workable)
@@ -43,18 +44,18 @@ loop-k-preserved c =
     let z = get_or c.args.bounds c.loop-k.k (pos 0) in
     let e = read_back in
     let k = c.loop-k.k in
-    ⊎_elim
-    (λ w. (
-      omega arith,
-      subst (λ (r : Tight). Narrows (written_to c.args.bounds (k + 1)) c.args.t r) (sym w.2)
-          (written_next c.args.bounds k c.args.t c.loop-k.r w.1.result (is_below z (omega (signed, eq_read e, w.0.taken))) c.loop-k.invariant.1 (rw e at w.1.ensures)),
-    ))
-    (λ w. (
-      omega arith,
-      subst (λ (r : Tight). Narrows (written_to c.args.bounds (k + 1)) c.args.t r) (sym w.1)
-          (written_same c.args.bounds k c.args.t c.loop-k.r (not_below z (c.requires.takable.each k (omega arith)) (omega (signed, eq_read e, w.0.left))) c.loop-k.invariant.1),
-    ))
-    c.if-c-lt-NONE.branch
+    elim c.if-c-lt-NONE.branch [
+      then-c-lt-NONE w ↦ (
+        omega arith,
+        subst (λ (r : Tight). Narrows (written_to c.args.bounds (k + 1)) c.args.t r) (sym w.r-is)
+            (written_next c.args.bounds k c.args.t c.loop-k.r w.narrow-r.result (is_below z (omega (signed, eq_read e, w.if-c-lt-NONE.true))) c.loop-k.invariant.1 (rw e at w.narrow-r.ensures)),
+      )
+    | else-c-lt-NONE w ↦ (
+        omega arith,
+        subst (λ (r : Tight). Narrows (written_to c.args.bounds (k + 1)) c.args.t r) (sym w.r-is)
+            (written_same c.args.bounds k c.args.t c.loop-k.r (not_below z (c.requires.takable.each k (omega arith)) (omega (signed, eq_read e, w.if-c-lt-NONE.false))) c.loop-k.invariant.1),
+      )
+    ]
 
 pub returns : goal.returns
 returns c =

@@ -10,5 +10,4 @@ pub mod LendLaws
 pub mod StepLaws
 pub mod SeenLaws
 pub mod PlaceLaws
-pub mod Walked
 pub mod Unique

@@ -24,18 +24,18 @@ overflows-requires c = record { right_table = c.requires.table; count_bound = (l
 pub returns-then-overflows : goal.returns-then-overflows
 returns-then-overflows c =
     let over : c.overflows.result ≡ overflows_any (decode c.args.model.now) (released_by (decode c.args.model.now) c.args.number) (order (queue_of c.args.state.jobs c.args.state.count)) =
-        (let a = c.args in
-        c.overflows.ensures ∙ ap₂ (overflows_any (decode a.model.now)) c.released_by-releases.ensures.is (ap (take a.state.count) c.tasks_of.ensures ∙ order_is a.state.jobs a.state.count)) in
+    (let a = c.args in
+    c.overflows.ensures ∙ ap₂ (overflows_any (decode a.model.now)) c.released_by-releases.ensures.is (ap (take a.state.count) c.tasks_of.ensures ∙ order_is a.state.jobs a.state.count)) in
     moved_over c.args.model.now c.requires.table c.args.state c.requires.lendable c.args.number c.args.clocks (sym (over) ∙ c.if-overflows.true)
 
 -- src/stepping.rt:131:9
 pub put_all-next-requires : goal.put_all-next-requires
 put_all-next-requires c =
     let many : length (released_by (decode c.args.model.now) c.args.number) ≡ c.released_by-releases.result.count =
-        (lists_many _ c.released_by-releases.result c.released_by-releases.ensures (search rules)) in
+    (lists_many _ c.released_by-releases.result c.released_by-releases.ensures (search rules)) in
     let over : c.overflows.result ≡ overflows_any (decode c.args.model.now) (released_by (decode c.args.model.now) c.args.number) (order (queue_of c.args.state.jobs c.args.state.count)) =
-        (let a = c.args in
-        c.overflows.ensures ∙ ap₂ (overflows_any (decode a.model.now)) c.released_by-releases.ensures.is (ap (take a.state.count) c.tasks_of.ensures ∙ order_is a.state.jobs a.state.count)) in
+    (let a = c.args in
+    c.overflows.ensures ∙ ap₂ (overflows_any (decode a.model.now)) c.released_by-releases.ensures.is (ap (take a.state.count) c.tasks_of.ensures ∙ order_is a.state.jobs a.state.count)) in
     let t = c.args.model.now in
     let s = c.args.state in
     let g = c.requires.table in
@@ -46,10 +46,10 @@ put_all-next-requires c =
 pub overflow_add-after : goal.overflow_add-after
 overflow_add-after c =
     let many : length (released_by (decode c.args.model.now) c.args.number) ≡ c.released_by-releases.result.count =
-        (lists_many _ c.released_by-releases.result c.released_by-releases.ensures (search rules)) in
+    (lists_many _ c.released_by-releases.result c.released_by-releases.ensures (search rules)) in
     let over : c.overflows.result ≡ overflows_any (decode c.args.model.now) (released_by (decode c.args.model.now) c.args.number) (order (queue_of c.args.state.jobs c.args.state.count)) =
-        (let a = c.args in
-        c.overflows.ensures ∙ ap₂ (overflows_any (decode a.model.now)) c.released_by-releases.ensures.is (ap (take a.state.count) c.tasks_of.ensures ∙ order_is a.state.jobs a.state.count)) in
+    (let a = c.args in
+    c.overflows.ensures ∙ ap₂ (overflows_any (decode a.model.now)) c.released_by-releases.ensures.is (ap (take a.state.count) c.tasks_of.ensures ∙ order_is a.state.jobs a.state.count)) in
     let r = moved_room c.args.model.now c.requires.table c.args.state c.requires.lendable c.args.number (sym (over) ∙ c.if-overflows.false) in
     record { fits = omega (arith, many, r) }
 
@@ -57,10 +57,10 @@ overflow_add-after c =
 pub returns : goal.returns
 returns c =
     let many : length (released_by (decode c.args.model.now) c.args.number) ≡ c.released_by-releases.result.count =
-        (lists_many _ c.released_by-releases.result c.released_by-releases.ensures (search rules)) in
+    (lists_many _ c.released_by-releases.result c.released_by-releases.ensures (search rules)) in
     let over : c.overflows.result ≡ overflows_any (decode c.args.model.now) (released_by (decode c.args.model.now) c.args.number) (order (queue_of c.args.state.jobs c.args.state.count)) =
-        (let a = c.args in
-        c.overflows.ensures ∙ ap₂ (overflows_any (decode a.model.now)) c.released_by-releases.ensures.is (ap (take a.state.count) c.tasks_of.ensures ∙ order_is a.state.jobs a.state.count)) in
+    (let a = c.args in
+    c.overflows.ensures ∙ ap₂ (overflows_any (decode a.model.now)) c.released_by-releases.ensures.is (ap (take a.state.count) c.tasks_of.ensures ∙ order_is a.state.jobs a.state.count)) in
     let t = c.args.model.now in
     let s = c.args.state in
     let free = sym (over) ∙ c.if-overflows.false in

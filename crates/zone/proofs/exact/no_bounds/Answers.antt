@@ -1,0 +1,7 @@
+-- `zone::exact::no_bounds` meets its contract.
+use Rattle.zone.proofs.ExactLaws.{empty_made}
+use Rattle.zone.proofs.exact.no_bounds.Goals as goal
+
+-- Assumes nothing.
+pub returns : goal.returns
+returns c = empty_made

@@ -1,0 +1,16 @@
+-- What the loops of `with_jobs` keep, and how they end.
+use Prim.Native.Nat.{◌-◌}
+use mathlib.Core.Path.{◌≡◌, refl}
+use lib.ListN.{length, get_or}
+use Rattle.machine.specs.Stands.{no_job}
+use Rattle.zone.proofs.ExactLaws.{JobsUpto, jobs_start, jobs_more, jobs_end}
+use borrow.Author.Rules.{rules}
+use native.Mathlib.Omega.{arith}
+use Rattle.zone.proofs.exact.with_jobs.Given as goal
+
+-- Assumes nothing.
+abbrev pub invariant-loop-k : goal.invariant-loop-k
+invariant-loop-k l = (length l.jobs ≡ 6) × JobsUpto l.initial.r l.n l.jobs l.count l.r l.ahead l.sum l.k
+
+abbrev pub decreases-loop-k : goal.decreases-loop-k
+decreases-loop-k l = l.count - l.k

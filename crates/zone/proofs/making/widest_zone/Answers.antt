@@ -1,0 +1,7 @@
+-- `zone::making::widest_zone` meets its contract.
+use Rattle.zone.proofs.MadeLaws.{widest_made}
+use borrow.Author.Rules.{rules}
+use Rattle.zone.proofs.making.widest_zone.Goals as goal
+
+pub returns : goal.returns
+returns c = λ m r. widest_made m _ _ r c.no_bounds-bounds.ensures

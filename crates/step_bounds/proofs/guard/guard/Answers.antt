@@ -1,7 +1,6 @@
 -- `step_bounds::guard::guard` meets its contract.
 use mathlib.Core.Path.{◌≡◌, sym, subst}
 use mathlib.Core.Bool.{true}
-use mathlib.Core.Logic.{⊎_elim}
 use Prim.Native.Nat.{◌+◌, ◌-◌, ◌/◌, ◌%◌, ◌≤◌}
 use native.Mathlib.Omega.{arith}
 use borrow.Author.Tests.{lt-ltb, le-ltb}
@@ -16,6 +15,7 @@ use Rattle.zone_bounds.proofs.NumberLaws.{read}
 use Rattle.step_bounds.proofs.RangeLaws.{bound_right}
 use Rattle.step_bounds.proofs.TableLaws.{guard_to, guard_first, guard_next, guard_same}
 use Rattle.step_bounds.proofs.guard.guard.Goals as goal
+use Rattle.step_bounds.proofs.guard.guard.Goals.{then-kept-gt0, else-kept-gt0}
 
 pub loop-x-init : goal.loop-x-init
 loop-x-init c = (omega arith, guard_first c.args.model.now c.args.edge c.args.t c.requires.workable)
@@ -37,10 +37,10 @@ signed-requires c =
 pub narrow-r-requires : goal.narrow-r-requires
 narrow-r-requires c =
     let there_is : ltb 0 (bound_in c.args.model.now c.args.edge (c.loop-x.x / 5) (c.loop-x.x % 5)) ≡ true =
-        (rw (sym c.bound-kept.ensures) (lt-ltb 0 c.bound-kept.result c.if-kept-gt0.true)) in
+    (rw (sym c.bound-kept.ensures) (lt-ltb 0 c.bound-kept.result c.if-kept-gt0.true)) in
     let small : Size (lowered (bound_in c.args.model.now c.args.edge (c.loop-x.x / 5) (c.loop-x.x % 5) - 1)) bound_size =
-        (let r = bound_right c.args.model.now c.requires.right_table c.args.edge c.loop-x.x (omega arith) (omega arith) (omega arith) there_is in
-        record { high = omega (arith, r.most); low = omega (arith, r.least) }) in
+    (let r = bound_right c.args.model.now c.requires.right_table c.args.edge c.loop-x.x (omega arith) (omega arith) (omega arith) there_is in
+    record { high = omega (arith, r.most); low = omega (arith, r.least) }) in
     rw (read c.signed.result _ (record { sfits = c.signed.type_inv }) c.signed.ensures, c.bound-kept.ensures)
     (record { i_bound = (omega arith, omega arith); size = small; workable = c.loop-x.invariant.1.usable })
 
@@ -52,23 +52,21 @@ loop-x-smaller c = omega arith
 
 pub loop-x-preserved : goal.loop-x-preserved
 loop-x-preserved c =
-    let there_is : ltb 0 (bound_in c.args.model.now c.args.edge (c.loop-x.x / 5) (c.loop-x.x % 5)) ≡ true =
-        (rw (sym c.bound-kept.ensures) (lt-ltb 0 c.bound-kept.result c.if1.true)) in
     let x = c.loop-x.x in
     let e = c.bound-kept.ensures in
-    ⊎_elim
-    (λ w. (
-      omega arith,
-      subst (λ (r : Tight). Narrows (guard_to c.args.model.now c.args.edge (x + 1)) c.args.t r) (sym w.3)
-          (guard_next c.args.model.now c.args.edge x c.args.t c.loop-x.r w.2.result (there_is (record { before = c.before.before; if1 = w.0 })) c.loop-x.invariant.1
-          (rw (read w.1.result _ (record { sfits = w.1.ok }) w.1.ensures, e) at w.2.ensures)),
-    ))
-    (λ w. (
-      omega arith,
-      subst (λ (r : Tight). Narrows (guard_to c.args.model.now c.args.edge (x + 1)) c.args.t r) (sym w.1)
-          (guard_same c.args.model.now c.args.edge x c.args.t c.loop-x.r (rw (sym e) (le-ltb 0 c.bound-kept.result w.0.left)) c.loop-x.invariant.1),
-    ))
-    c.if-kept-gt0.branch
+    elim c.if-kept-gt0.branch [
+      | then-kept-gt0 w ↦ (
+        omega arith,
+        subst (λ (r : Tight). Narrows (guard_to c.args.model.now c.args.edge (x + 1)) c.args.t r) (sym w.r-is)
+            (guard_next c.args.model.now c.args.edge x c.args.t c.loop-x.r w.narrow-r.result (rw (sym e) (lt-ltb 0 c.bound-kept.result w.if-kept-gt0.true)) c.loop-x.invariant.1
+            (rw (read w.signed.result _ (record { sfits = w.signed.type_inv }) w.signed.ensures, e) at w.narrow-r.ensures)),
+      )
+      | else-kept-gt0 w ↦ (
+        omega arith,
+        subst (λ (r : Tight). Narrows (guard_to c.args.model.now c.args.edge (x + 1)) c.args.t r) (sym w.r-is)
+            (guard_same c.args.model.now c.args.edge x c.args.t c.loop-x.r (rw (sym e) (le-ltb 0 c.bound-kept.result w.if-kept-gt0.false)) c.loop-x.invariant.1),
+      )
+    ]
 
 pub returns : goal.returns
 returns c =

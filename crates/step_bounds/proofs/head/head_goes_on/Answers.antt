@@ -20,21 +20,21 @@ returns-then-home-eq0 c = on_none (decode c.args.model.now) c.args.home.count c.
 pub less-c-requires : goal.less-c-requires
 less-c-requires c =
     let short : c.work.result ≤ 10000 =
-        (omega (arith, c.work.ensures, work_small c.args.model.now c.requires.right_table (get_or c.args.home.tasks 0 0))) in
+    (omega (arith, c.work.ensures, work_small c.args.model.now c.requires.right_table (get_or c.args.home.tasks 0 0))) in
     let w = short in (omega arith, omega arith)
 
 pub sum_at-requires : goal.sum_at-requires
 sum_at-requires c =
     let clocks-few : c.clocks.result ≤ 4 =
-        (omega (arith, c.clocks.ensures, clocks_small c.args.model.now c.requires.right_table)) in
+    (omega (arith, c.clocks.ensures, clocks_small c.args.model.now c.requires.right_table)) in
     (clocks-few, omega arith)
 
 pub narrow-requires : goal.narrow-requires
 narrow-requires c =
     let short : c.work.result ≤ 10000 =
-        (omega (arith, c.work.ensures, work_small c.args.model.now c.requires.right_table (get_or c.args.home.tasks 0 0))) in
+    (omega (arith, c.work.ensures, work_small c.args.model.now c.requires.right_table (get_or c.args.home.tasks 0 0))) in
     let clocks-few : c.clocks.result ≤ 4 =
-        (omega (arith, c.clocks.ensures, clocks_small c.args.model.now c.requires.right_table)) in
+    (omega (arith, c.clocks.ensures, clocks_small c.args.model.now c.requires.right_table)) in
     let w = short in
     let n = clocks-few in
     let l = c.less-c in

@@ -1,7 +1,6 @@
 -- `step_bounds::limits::limits` meets its contract.
 use mathlib.Core.Path.{◌≡◌, sym, ◌∙◌, ap, subst}
 use mathlib.Core.Bool.{true}
-use mathlib.Core.Logic.{⊎_elim}
 use Prim.Native.Nat.{◌+◌, ◌-◌, ◌≤◌}
 use native.Mathlib.Omega.{arith}
 use borrow.Author.Tests.{lt-ltb, le-ltb}
@@ -14,6 +13,7 @@ use Rattle.zone_bounds.proofs.NumberLaws.{read, sub_small}
 use Rattle.step_bounds.proofs.RangeLaws.{limit_small}
 use Rattle.step_bounds.proofs.TableLaws.{limits_to, limits_first, limits_next, limits_same, limits_all}
 use Rattle.step_bounds.proofs.limits.limits.Goals as goal
+use Rattle.step_bounds.proofs.limits.limits.Goals.{then-kept-gt0, else-kept-gt0}
 
 pub loop-x-init : goal.loop-x-init
 loop-x-init c = (omega arith, limits_first c.args.model.now c.args.location c.args.t c.requires.workable)
@@ -23,13 +23,6 @@ overflow_add-x c = omega arith
 
 pub limit-kept-requires : goal.limit-kept-requires
 limit-kept-requires c = tt
-
--- the limit's cell
-module _ (c : goal.Joined-kept-gt0) where
-  cell-is : c.limit-kept.result ≡ limit_in c.args.model.now c.args.location (1 + c.loop-x.x)
-  cell-is =
-    let e : c.loop-x.x + 1 ≡ 1 + c.loop-x.x = omega arith in
-      c.limit-kept.ensures ∙ ap (limit_in c.args.model.now c.args.location) e
 
 pub overflow_add-x-then-kept-gt0 : goal.overflow_add-x-then-kept-gt0
 overflow_add-x-then-kept-gt0 c = omega arith
@@ -42,22 +35,28 @@ overflow_sub-kept c = omega arith
 
 pub less-requires : goal.less-requires
 less-requires c =
+    let one : c.loop-x.x + 1 ≡ 1 + c.loop-x.x = omega arith in
+    let cell_is : c.limit-kept.result ≡ limit_in c.args.model.now c.args.location (1 + c.loop-x.x) =
+    c.limit-kept.ensures ∙ ap (limit_in c.args.model.now c.args.location) one in
     let there_is : ltb 0 (limit_in c.args.model.now c.args.location (1 + c.loop-x.x)) ≡ true =
-        (rw (sym (cell-is c.before.before)) (lt-ltb 0 c.limit-kept.result c.if-kept-gt0.true)) in
+    (rw (sym cell_is) (lt-ltb 0 c.limit-kept.result c.if-kept-gt0.true)) in
     let most : c.limit-kept.result - 1 ≤ 10000 =
-        (let e = cell-is c.before.before in
-        let h = limit_small c.args.model.now c.requires.right_table c.args.location c.loop-x.x (omega arith) there_is in
-        omega (arith, e)) in
+    (let e = cell_is in
+    let h = limit_small c.args.model.now c.requires.right_table c.args.location c.loop-x.x (omega arith) there_is in
+    omega (arith, e)) in
     let h = most in (omega arith, omega arith)
 
 pub narrow-r-requires : goal.narrow-r-requires
 narrow-r-requires c =
+    let one : c.loop-x.x + 1 ≡ 1 + c.loop-x.x = omega arith in
+    let cell_is : c.limit-kept.result ≡ limit_in c.args.model.now c.args.location (1 + c.loop-x.x) =
+    c.limit-kept.ensures ∙ ap (limit_in c.args.model.now c.args.location) one in
     let there_is : ltb 0 (limit_in c.args.model.now c.args.location (1 + c.loop-x.x)) ≡ true =
-        (rw (sym (cell-is c.before.before.before)) (lt-ltb 0 c.limit-kept.result c.if-kept-gt0.true)) in
+    (rw (sym cell_is) (lt-ltb 0 c.limit-kept.result c.if-kept-gt0.true)) in
     let most : c.limit-kept.result - 1 ≤ 10000 =
-        (let e = cell-is c.before.before.before in
-        let h = limit_small c.args.model.now c.requires.right_table c.args.location c.loop-x.x (omega arith) there_is in
-        omega (arith, e)) in
+    (let e = cell_is in
+    let h = limit_small c.args.model.now c.requires.right_table c.args.location c.loop-x.x (omega arith) there_is in
+    omega (arith, e)) in
     let h = most in
     rw (read c.less.result _ (record { sfits = c.less.type_inv }) c.less.ensures)
     (record { i_bound = (omega arith, omega arith); size = sub_small (c.limit-kept.result - 1) 1 (omega arith) (omega arith); workable = c.loop-x.invariant.1.usable })
@@ -70,24 +69,23 @@ loop-x-smaller c = omega arith
 
 pub loop-x-preserved : goal.loop-x-preserved
 loop-x-preserved c =
-    let there_is : ltb 0 (limit_in c.args.model.now c.args.location (1 + c.loop-x.x)) ≡ true =
-        (rw (sym (cell-is c)) (lt-ltb 0 c.limit-kept.result c.if1.true)) in
     let x = c.loop-x.x in
-    let e = cell-is c in
     let one : x + 1 ≡ 1 + x = omega arith in
-    ⊎_elim
-    (λ w. (
-      omega arith,
-      subst (λ (r : Tight). Narrows (limit_bounds (limits_to c.args.model.now c.args.location (x + 1))) c.args.t r) (sym w.3)
-          (limits_next c.args.model.now c.args.location x c.args.t c.loop-x.r w.2.result (there_is (record { before = c.before.before; if1 = w.0 })) c.loop-x.invariant.1
-          (rw (read w.1.result _ (record { sfits = w.1.ok }) w.1.ensures, e, one) at w.2.ensures)),
-    ))
-    (λ w. (
-      omega arith,
-      subst (λ (r : Tight). Narrows (limit_bounds (limits_to c.args.model.now c.args.location (x + 1))) c.args.t r) (sym w.1)
-          (limits_same c.args.model.now c.args.location x c.args.t c.loop-x.r (rw (sym e) (le-ltb 0 c.limit-kept.result w.0.left)) c.loop-x.invariant.1),
-    ))
-    c.if-kept-gt0.branch
+    let e : c.limit-kept.result ≡ limit_in c.args.model.now c.args.location (1 + x) =
+    c.limit-kept.ensures ∙ ap (limit_in c.args.model.now c.args.location) one in
+    elim c.if-kept-gt0.branch [
+      | then-kept-gt0 w ↦ (
+        omega arith,
+        subst (λ (r : Tight). Narrows (limit_bounds (limits_to c.args.model.now c.args.location (x + 1))) c.args.t r) (sym w.r-is)
+            (limits_next c.args.model.now c.args.location x c.args.t c.loop-x.r w.narrow-r.result (rw (sym e) (lt-ltb 0 c.limit-kept.result w.if-kept-gt0.true)) c.loop-x.invariant.1
+            (rw (read w.less.result _ (record { sfits = w.less.type_inv }) w.less.ensures, e, one) at w.narrow-r.ensures)),
+      )
+      | else-kept-gt0 w ↦ (
+        omega arith,
+        subst (λ (r : Tight). Narrows (limit_bounds (limits_to c.args.model.now c.args.location (x + 1))) c.args.t r) (sym w.r-is)
+            (limits_same c.args.model.now c.args.location x c.args.t c.loop-x.r (rw (sym e) (le-ltb 0 c.limit-kept.result w.if-kept-gt0.false)) c.loop-x.invariant.1),
+      )
+    ]
 
 pub returns : goal.returns
 returns c =

@@ -30,12 +30,12 @@ loop-k-smaller c = omega arith
 
 pub loop-k-preserved : goal.loop-k-preserved
 loop-k-preserved c = let f = test_at (decode c.args.model.now) c.args.task in (
-      omega arith,
-      omega arith,
-      λ ss w.
-          place_next f c.args.first ss c.loop-k.k no_slot c.args.t c.loop-k.r c.fail-r.result c.loop-k.invariant.0 (omega (arith, w.many, c.requires.first_le_at))
-          (c.loop-k.invariant.2 ss w) (rw (c.test_at.ensures ss w).is at c.fail-r.ensures),
-    )
+  omega arith,
+  omega arith,
+  λ ss w.
+      place_next f c.args.first ss c.loop-k.k no_slot c.args.t c.loop-k.r c.fail-r.result c.loop-k.invariant.0 (omega (arith, w.many, c.requires.first_le_at))
+      (c.loop-k.invariant.2 ss w) (rw (c.test_at.ensures ss w).is at c.fail-r.ensures),
+)
 
 pub returns : goal.returns
 returns c ss w =

@@ -26,7 +26,7 @@ hold-requires c = let p = c.requires.place_in in
 pub returns-then-at-count : goal.returns-then-at-count
 returns-then-at-count c ss w =
     let six : length c.args.slots.tasks ≡ 6 =
-        (search rules) in
+    (search rules) in
     let m = decode c.args.model.now in
     let p = c.requires.place_in in
     let e : c.first_place-first.result ≡ behind m c.args.task (tasks_in ss) = c.first_place-first.ensures ∙ ap (behind m c.args.task) (stand_tasks ss c.args.slots w (six)) in
@@ -38,7 +38,7 @@ returns-then-at-count c ss w =
 pub returns : goal.returns
 returns c ss w =
     let six : length c.args.slots.tasks ≡ 6 =
-        (search rules) in
+    (search rules) in
     let m = decode c.args.model.now in
     let p = c.requires.place_in in
     let e : c.first_place-first.result ≡ behind m c.args.task (tasks_in ss) = c.first_place-first.ensures ∙ ap (behind m c.args.task) (stand_tasks ss c.args.slots w (six)) in

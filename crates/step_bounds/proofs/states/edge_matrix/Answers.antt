@@ -16,9 +16,9 @@ returns-then-overflows c = let l = c.released_by-releases in
 pub placed-requires : goal.placed-requires
 placed-requires c =
     let six : length c.args.home.tasks ≡ 6 =
-        (search rules) in
+    (search rules) in
     let far : length c.args.step.positions ≡ 4 =
-        (search rules) in
+    (search rules) in
     let l = c.released_by-releases in
     let o = sym c.overflows.ensures ∙ c.if-overflows.false in
     let four : length l.result.tasks ≡ 4 = search rules in
@@ -27,9 +27,9 @@ placed-requires c =
 pub returns : goal.returns
 returns c =
     let six : length c.args.home.tasks ≡ 6 =
-        (search rules) in
+    (search rules) in
     let far : length c.args.step.positions ≡ 4 =
-        (search rules) in
+    (search rules) in
     let l = c.released_by-releases in
     let q = c.guard-r in
     let o = sym c.overflows.ensures ∙ c.if-overflows.false in

@@ -14,13 +14,13 @@ use Rattle.step_bounds.proofs.states.step_matrix.Goals as goal
 pub edge_matrix-requires : goal.edge_matrix-requires
 edge_matrix-requires c =
     let edge_is : c.args.step.kind ≡ Edge c.in-Edge.edge =
-        (c.in-Edge.is) in
+    (c.in-Edge.is) in
     let edge_in : EdgeIn (decode c.args.model.now) (home_of c.args.home) c.in-Edge.edge c.args.step =
-        (let l = c.requires.listed in
-        record {
-          formed = l.formed;
-          here = subst (λ (x : Kind). Memᴰ (step_by x (ahead_of c.args.step)) (list_at (decode c.args.model.now) (home_of c.args.home))) edge_is l.here;
-        }) in
+    (let l = c.requires.listed in
+    record {
+      formed = l.formed;
+      here = subst (λ (x : Kind). Memᴰ (step_by x (ahead_of c.args.step)) (list_at (decode c.args.model.now) (home_of c.args.home))) edge_is l.here;
+    }) in
     record { right_table = c.requires.right_table; right_home = c.requires.right_home; edge_in = edge_in; workable = c.requires.workable }
 
 pub returns-in-GoOn : goal.returns-in-GoOn
@@ -34,5 +34,5 @@ returns-in-Finish c = let e : c.args.step.kind ≡ Finish = c.in-Finish.is in
 pub returns-in-Edge : goal.returns-in-Edge
 returns-in-Edge c =
     let edge_is : c.args.step.kind ≡ Edge c.in-Edge.edge =
-        (c.in-Edge.is) in
+    (c.in-Edge.is) in
     rw (edge_is) c.edge_matrix.ensures

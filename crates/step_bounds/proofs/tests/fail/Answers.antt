@@ -15,21 +15,21 @@ narrow-requires c = record { i_bound = (omega arith, omega arith); size = record
 pub negated-requires : goal.negated-requires
 negated-requires c =
     let test-is : c.args.test ≡ AtMost c.in-AtMost.i c.in-AtMost.j c.in-AtMost.c =
-        (c.in-AtMost.is) in
+    (c.in-AtMost.is) in
     let asks : Askable (AtMost c.in-AtMost.i c.in-AtMost.j c.in-AtMost.c) =
-        (subst Askable test-is c.requires.askable) in
+    (subst Askable test-is c.requires.askable) in
     let number : rd c.in-AtMost.c ≡ c.in-AtMost.c =
-        (back _ (size_fits c.in-AtMost.c asks.2)) in
+    (back _ (size_fits c.in-AtMost.c asks.2)) in
     rw (number) (asks).2
 
 pub narrow-requires-in-AtMost : goal.narrow-requires-in-AtMost
 narrow-requires-in-AtMost c =
     let test-is : c.args.test ≡ AtMost c.in-AtMost.i c.in-AtMost.j c.in-AtMost.c =
-        (c.in-AtMost.is) in
+    (c.in-AtMost.is) in
     let asks : Askable (AtMost c.in-AtMost.i c.in-AtMost.j c.in-AtMost.c) =
-        (subst Askable test-is c.requires.askable) in
+    (subst Askable test-is c.requires.askable) in
     let number : rd c.in-AtMost.c ≡ c.in-AtMost.c =
-        (back _ (size_fits c.in-AtMost.c asks.2)) in
+    (back _ (size_fits c.in-AtMost.c asks.2)) in
     let h = asks in
     let e = rw (number) at c.negated.ensures in
     rw (read c.negated.result _ (record { sfits = c.negated.type_inv }) e) (record { i_bound = (h.1, h.0); size = neg_size c.in-AtMost.c h.2; workable = c.requires.workable })
@@ -45,10 +45,10 @@ returns-in-Never c = let e : c.args.test ≡ Never = c.in-Never.is in
 pub returns-in-AtMost : goal.returns-in-AtMost
 returns-in-AtMost c =
     let test-is : c.args.test ≡ AtMost c.in-AtMost.i c.in-AtMost.j c.in-AtMost.c =
-        (c.in-AtMost.is) in
+    (c.in-AtMost.is) in
     let asks : Askable (AtMost c.in-AtMost.i c.in-AtMost.j c.in-AtMost.c) =
-        (subst Askable test-is c.requires.askable) in
+    (subst Askable test-is c.requires.askable) in
     let number : rd c.in-AtMost.c ≡ c.in-AtMost.c =
-        (back _ (size_fits c.in-AtMost.c asks.2)) in
+    (back _ (size_fits c.in-AtMost.c asks.2)) in
     let e = rw (number) at c.negated.ensures in
     rw (test-is) (rw (read c.negated.result _ (record { sfits = c.negated.type_inv }) e) at c.narrow-in-AtMost.ensures)

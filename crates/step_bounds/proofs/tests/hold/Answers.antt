@@ -15,11 +15,11 @@ narrow-requires c = record { i_bound = (omega arith, omega arith); size = record
 pub narrow-requires-in-AtMost : goal.narrow-requires-in-AtMost
 narrow-requires-in-AtMost c =
     let test-is : c.args.test ≡ AtMost c.in-AtMost.i c.in-AtMost.j c.in-AtMost.c =
-        (c.in-AtMost.is) in
+    (c.in-AtMost.is) in
     let asks : Askable (AtMost c.in-AtMost.i c.in-AtMost.j c.in-AtMost.c) =
-        (subst Askable test-is c.requires.askable) in
+    (subst Askable test-is c.requires.askable) in
     let number : rd c.in-AtMost.c ≡ c.in-AtMost.c =
-        (back _ (size_fits c.in-AtMost.c asks.2)) in
+    (back _ (size_fits c.in-AtMost.c asks.2)) in
     let h = asks in
     rw (number) (record { i_bound = (h.0, h.1); size = size_more c.in-AtMost.c h.2; workable = c.requires.workable })
 
@@ -34,9 +34,9 @@ returns-in-Never c = let e : c.args.test ≡ Never = c.in-Never.is in
 pub returns-in-AtMost : goal.returns-in-AtMost
 returns-in-AtMost c =
     let test-is : c.args.test ≡ AtMost c.in-AtMost.i c.in-AtMost.j c.in-AtMost.c =
-        (c.in-AtMost.is) in
+    (c.in-AtMost.is) in
     let asks : Askable (AtMost c.in-AtMost.i c.in-AtMost.j c.in-AtMost.c) =
-        (subst Askable test-is c.requires.askable) in
+    (subst Askable test-is c.requires.askable) in
     let number : rd c.in-AtMost.c ≡ c.in-AtMost.c =
-        (back _ (size_fits c.in-AtMost.c asks.2)) in
+    (back _ (size_fits c.in-AtMost.c asks.2)) in
     rw (test-is) (rw (number) at c.narrow-in-AtMost.ensures)

@@ -2,53 +2,66 @@
 // read counts as empty.
 #![tactic(auto)]
 
+ghost use Rattle.std.specs.Prelude.{IfOk};
 ghost use Rattle.io.specs.Counts.{IsPrefixLen};
 
 use console::Written;
-use libc::STDOUT_FILENO;
+use std::io::Read;
+use std::rt::Files;
+use std::{fs, io};
 
-// Whether the file has no more bytes: a read that fails says no.
-fn ends(fd: i32) -> bool {
-    let mut more = [0u8; 1];
-    libc::read(fd, &mut more) == 0
+// The file's bytes into the room until it ends or the room is full, and how many.
+fn fill<R: Read>(file: &mut R, room: &mut [u8]) -> io::Result<usize>
+    ensures { IfOk result (λ n. IsPrefixLen n room.new) }
+{
+    let mut n = 0;
+    while n < room.len() {
+        let more = file.read(&mut room[n..])?;
+        if more == 0 {
+            break;
+        }
+        n += more;
+    }
+    Ok(n)
 }
 
 // The file's bytes into the room, and how many. The room has one byte more than a text may have, so a longer file is seen as longer. A file
 // that can't be read to its end counts as empty.
-fn read_file(name: &[u8], room: &mut [u8]) -> usize
+fn read_file<R: Files>(rt: &R, name: &str, room: &mut [u8]) -> usize
     ensures { IsPrefixLen result room.new }
 {
-    let fd = os::open_read(name);
-    if fd < 0 {
-        return 0;
+    match fs::open(rt, name) {
+        Ok(mut file) => match fill(&mut file, room) {
+            Ok(n) => n,
+            Err(_) => 0,
+        },
+        Err(_) => 0,
     }
-    let n = io::read_full(fd, room);
-    let whole = n == room.len() || ends(fd);
-    libc::close(fd);
-    if whole { n } else { 0 }
 }
 
 // The first n bytes and a line feed.
-fn print_front(bytes: &[u8], n: usize) {
+fn print_front(rt: &impl Print, bytes: &[u8], n: usize) -> io::Result<()> {
     if n <= bytes.len() {
-        io::write_all(STDOUT_FILENO, &bytes[..n]);
-        io::write_all(STDOUT_FILENO, b"\n");
+        rt.write_all(&bytes[..n])?;
+        rt.write_all(b"\n")?;
     }
+    Ok(())
 }
 
 // The line of the two texts. No line is longer than the buffer.
-fn print_line(model: &[u8], zones: &[u8]) {
+fn print_line(rt: &impl Print, model: &[u8], zones: &[u8]) -> io::Result<()> {
     let mut buffer = [0u8; 569];
     let told = console::check_texts(model, zones);
     if let Written::Done(n) = console::line(told, &mut buffer) {
-        print_front(&buffer, n);
+        print_front(rt, &buffer, n)?;
     }
+    Ok(())
 }
 
-fn main() {
+fn main(rt: HostRuntime) -> io::Result<()> {
     let mut model = [0u8; 65536];
     let mut zones = [0u8; 65536];
-    let n = read_file(b"model.txt", &mut model);
-    let k = read_file(b"zones.txt", &mut zones);
-    print_line(&model[..n], &zones[..k]);
+    let n = read_file(&rt, "model.txt", &mut model);
+    let k = read_file(&rt, "zones.txt", &mut zones);
+    print_line(&rt, &model[..n], &zones[..k])
 }

@@ -16,8 +16,8 @@ overflow_cast-result c =
     let v = c.args.value in
     let a = c.args.added in
     let p = c.requires in
-    let s = p.1.0 in
-    (nonneg_make (rd (to_z w32 v +ℤ rd a)) (moved_sign v a p.0 s p.1.1), omega (arith, moved_is v a p.0 s p.1.1, s.high))
+    let s = p.size in
+    (nonneg_make (rd (to_z w32 v +ℤ rd a)) (moved_sign v a p.value_bound s p.added_bound), omega (arith, moved_is v a p.value_bound s p.added_bound, s.high))
 
 pub returns : goal.returns
 returns c = moved_is c.args.value c.args.added c.requires.value_bound c.requires.size c.requires.added_bound

@@ -1,5 +1,4 @@
 -- `read_row` meets its contract.
-use mathlib.Core.Logic.{⊎_elim}
 use Prim.Native.Nat.{◌-◌}
 use mathlib.Core.Path.{refl, sym, ap, ◌∙◌}
 use lib.ListN.{length, length-set}
@@ -11,6 +10,7 @@ use Rattle.zone_text.proofs.Laws.Rows.{Taking, taking_first, taking_ends, taking
 use borrow.Author.Rules.{rules}
 use native.Mathlib.Omega.{arith}
 use Rattle.zone_text.proofs.reading_rows.read_row.Goals as goal
+use Rattle.zone_text.proofs.reading_rows.read_row.Goals.{then-k-room, else-k-room}
 
 pub loop-at-init : goal.loop-at-init
 loop-at-init c =
@@ -85,6 +85,6 @@ loop-at-preserved c =
     let l = c.loop-at in
     let f = sym c.read_field.ensures ∙ ap meant c.in-Num.is in
     taking_more a.s.now a.at a.most a.low a.high a.t.now a.q a.room l.t l.k l.p l.o l.invariant (sym c.byte_is.ensures ∙ c.if-byte_is.false) c.if-most-k.false _ _ _ f _ _
-    (⊎_elim (λ w. ap length w.1 ∙ simp length-set l.invariant.long) (λ w. ap length w.1 ∙ l.invariant.long) c.if-k-room.branch)
-    (λ h. ⊎_elim (λ w. w.1) (λ w. absurd (let n = w.0.left in omega arith)) c.if-k-room.branch)
+    (elim c.if-k-room.branch [ then-k-room w ↦ ap length w.t-is ∙ simp length-set l.invariant.long | else-k-room w ↦ ap length w.t-is ∙ l.invariant.long ])
+    (λ h. elim c.if-k-room.branch [ then-k-room w ↦ w.t-is | else-k-room w ↦ absurd (let n = w.if-k-room.false in omega arith) ])
     c.first_out-o.ensures

@@ -5,7 +5,12 @@
 ghost use Rattle.std.specs.Prelude.{◌<◌};
 
 use console::Written;
-use libc::{STDIN_FILENO, STDOUT_FILENO};
+
+// Where the cases come from.
+const STDIN_FILENO: i32 = 0;
+
+// Where what is printed goes.
+const STDOUT_FILENO: i32 = 1;
 
 // More than any room has: there is no further text.
 const NO_TEXT: usize = 4294967295;

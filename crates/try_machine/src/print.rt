@@ -1,8 +1,10 @@
 // A reply as a line: what the step came to, the location, the clocks, and task, done and age of each job.
 ghost use Rattle.std.specs.Prelude.{◌+◌, ◌≤◌};
 
-use libc::STDOUT_FILENO;
 use machine::{Job, Outcome, Reply};
+
+// Where what is printed goes.
+const STDOUT_FILENO: i32 = 1;
 
 pub(crate) fn text(s: &[u8]) {
     io::write_all(STDOUT_FILENO, s);

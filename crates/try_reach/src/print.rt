@@ -3,9 +3,11 @@
 // exclamation mark if a cell that belongs to no two variables isn't 0.
 ghost use Rattle.std.specs.Prelude.{◌<◌, ◌≤◌};
 
-use libc::STDOUT_FILENO;
 use step_reach::StepReply;
 use zone::Zone;
+
+// Where what is printed goes.
+const STDOUT_FILENO: i32 = 1;
 
 // Bytes as they are.
 pub(crate) fn text(s: &[u8]) {

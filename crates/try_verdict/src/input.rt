@@ -1,7 +1,8 @@
 // Texts of standard input, each behind its length.
 ghost use Rattle.std.specs.Prelude.{◌<◌};
 
-use libc::STDIN_FILENO;
+// Where the cases come from.
+const STDIN_FILENO: i32 = 0;
 
 fn wide(b: u8) -> usize
     ensures { result < 256 }

@@ -2,9 +2,11 @@
 // miss its position, for a broken bound its two variables, and behind a colon the state: location, clocks,
 // then task, done and age per job; or RF, 0 and the refusal's number. An exclamation mark follows if
 // something that says nothing isn't 0.
-use libc::STDOUT_FILENO;
 use machine::{Job, State};
 use verdict::{Answer, Fault};
+
+// Where what is printed goes.
+const STDOUT_FILENO: i32 = 1;
 
 // Bytes as they are.
 fn text(s: &[u8]) {

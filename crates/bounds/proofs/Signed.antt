@@ -1,10 +1,10 @@
 -- The bridge from i32 to arithmetic: z is over z − under z, two naturals of which one is 0. A law has no condition where it can, so that a list of them is all that `omega` wants.
 -- Assumes nothing.
-use mathlib.Core.Path.{◌≡◌, refl, sym, ap, subst}
-use mathlib.Core.Bool.{Bool, true, false, not, cond}
-use Prim.Native.Nat.{ℕ, zero, suc, ◌+◌, ◌-◌, ◌^◌, ◌<◌, ◌≤◌}
+use mathlib.Core.Path.{◌≡◌, refl, sym, subst}
+use mathlib.Core.Bool.{Bool, true, false, not}
+use Prim.Native.Nat.{◌+◌, ◌^◌, ◌<◌, ◌≤◌}
 use native.Mathlib.Omega.{arith}
-use lib.Dec.{T, ltb, leb, ltb→lt, nltb→le, leb→le, nleb→lt, le→leb}
+use lib.Dec.{T, ltb→lt, nltb→le, leb→le, nleb→lt, le→leb}
 use lib.IntN.{ℤ, pos, negsuc, neg_ℤ, nat_abs, ◌+ℤ◌, ◌-ℤ◌}
 use lib.Signed.{◌≤ℤ◌, le_z, lt_z, mag, non_neg, le_z_yes}
 use mir.Syntax.{w32}

@@ -1,17 +1,17 @@
 -- Laws of the clocks: limits, growing, guards, resets.
 -- Assumes nothing.
-use Prim.Native.Nat.{ℕ, zero, suc, ◌+◌, ◌-◌, ◌*◌, ◌/◌, ◌%◌, ◌≤◌, ◌<◌}
+use Prim.Native.Nat.{ℕ, zero, suc, ◌+◌, ◌-◌, ◌≤◌, ◌<◌}
 use mathlib.Core.Path.{◌≡◌, refl, sym, ◌∙◌, ap}
 use mathlib.Core.Bool.{Bool, true, false}
-use mathlib.Core.List.{List, [], ◌∷◌, ◌++◌, map, append-nil}
+use mathlib.Core.List.{List, [], ◌∷◌, ◌++◌, map}
 use native.Mathlib.Omega.{arith}
 use native.Mathlib.Numerals.{add-one}
 use lib.Dec.{ltb, leb}
 use lib.ListN.{length, get_or, take, set, length-set}
 use lib.Seq.{get_or-take, length-take-le, set-get_or}
 use borrow.Author.Tests.{lt-ltb, le-ltb, le-leb, lt-leb}
-use Rattle.meaning.specs.Lists.{nth1D, set1, every}
-use Rattle.meaning.specs.Numbers.{within, over, under}
+use Rattle.meaning.specs.Lists.{nth1D, set1}
+use Rattle.meaning.specs.Numbers.{over, under}
 use Rattle.meaning.specs.Machine.Edge.{reset_all}
 use Rattle.meaning.specs.Text.Choice.{pick}
 use Rattle.meaning.specs.Text.ModelTable.{collect, lowered}
@@ -19,9 +19,8 @@ use Rattle.meaning.proofs.Tests.{leb_same}
 use Rattle.meaning.proofs.Text.Choices.{by_lt}
 use Rattle.meaning.proofs.Text.ModelDecode.{lowered_over, lowered_under}
 use Rattle.model_table.specs.Parts.{reset_in, resets_of}
-use Rattle.machine.specs.Stands.{padded}
 use Rattle.machine.specs.ByCell.{grown_cell, limit_met, bound_met, kept_cell}
-use Rattle.machine.proofs.Arrays.{map_at, map_out, padded_length, padded_at, padded_is, padded_read}
+use Rattle.machine.proofs.Arrays.{map_at, map_out}
 
 -- ---- growing
 

@@ -20,7 +20,6 @@ use Rattle.model_table.specs.Right.{RightTable}
 use Rattle.model_table.proofs.GivenLaws.{given_table}
 use Rattle.model_table.proofs.PartLaws.{tasks_is}
 use Rattle.machine.specs.Stands.{job_of, task_of, Lendable}
-use Rattle.machine.specs.Promise as P
 use Rattle.machine.specs.Promise.{said, said_by, place_said, UsableState, Stepped, Started, Listed, Placing}
 use Rattle.machine.specs.ByCell.{all_to, clock_right, timely, job_right}
 use Rattle.machine.specs.declared.Job.{Job}

@@ -1,7 +1,7 @@
 -- What the machine's functions promise, on every table, state and number.
 -- Assumes nothing.
 use Rattle.std.specs.Prelude.{ℕ, suc, ◌≤◌, ◌≡◌, Bool, true, leb, length, replicate}
-use mathlib.Core.List.{List, [], map, Memᴰ}
+use mathlib.Core.List.{List, map, Memᴰ}
 use Rattle.meaning.specs.Lists.{every}
 use Rattle.meaning.specs.Model.{Model}
 use Rattle.meaning.specs.Machine.State as M

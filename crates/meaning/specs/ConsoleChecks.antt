@@ -1,7 +1,6 @@
 -- Document 01, "Console checks": Model A, Proposal A, and the checks marked (P), as one table under one statement.
 -- Assumes nothing.
 use Rattle.std.specs.Prelude.{◌≡◌, List, [], ◌∷◌, ℕ, ℤ, pos, negsuc}
-use Rattle.std.proofs.Math.Option.{some}
 use Rattle.meaning.specs.Model.{Policy, fps, edf, Bound, Model}
 use Rattle.meaning.specs.Machine.State.{Job, State}
 use Rattle.meaning.specs.Machine.Release.{put}

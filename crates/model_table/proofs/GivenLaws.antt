@@ -2,28 +2,28 @@
 -- Assumes nothing.
 use Prim.Native.Nat.{ℕ, zero, suc, ◌+◌, ◌-◌, ◌*◌, ◌/◌, ◌%◌, ◌≤◌, ◌<◌}
 use mathlib.Core.Path.{◌≡◌, refl, sym, ◌∙◌, ap, subst}
-use mathlib.Core.Bool.{Bool, true, false, ◌&&◌}
+use mathlib.Core.Bool.{Bool, true, false}
 use mathlib.Core.List.{List, [], ◌∷◌, ◌++◌}
-use mathlib.Core.Option.{Option, none, some}
+use mathlib.Core.Option.{none, some}
 use native.Mathlib.Omega.{arith}
 use lib.Dec.{ltb}
 use lib.ListN.{length, get_or, get_elem?}
-use borrow.Author.Tests.{lt-ltb, le-ltb}
+use borrow.Author.Tests.{lt-ltb}
 use Rattle.meaning.specs.Lists.{nth1}
-use Rattle.meaning.specs.Model.{Task, Limit, Bound, Location, Edge, Model, no_task, no_location, task_at, location_at}
+use Rattle.meaning.specs.Model.{Task, Location, Edge, no_task, no_location, task_at, location_at}
 use Rattle.meaning.specs.Text.ModelReader.{Given}
-use Rattle.meaning.specs.Text.ModelTable.{size, encode, decode, collect, lowered, limits_in, guard_in, resets_in, clocks, tasks, locations, edges}
+use Rattle.meaning.specs.Text.ModelTable.{encode, decode, collect, lowered, limits_in, guard_in, resets_in, tasks, locations, edges}
 use Rattle.meaning.specs.Text.ModelText.{policy_number}
 use Rattle.meaning.specs.Text.Choice.{pick}
-use Rattle.meaning.specs.Text.RightModel.{Each, RightBound, RightModel}
+use Rattle.meaning.specs.Text.RightModel.{Each, RightBound}
 use Rattle.meaning.proofs.Text.Choices.{by_lt, by_eq}
 use Rattle.meaning.proofs.Text.Keyed.{by_nth, collect_same, each_nth, nth_none, nth_in}
 use Rattle.meaning.proofs.Text.ModelDecode.{lowered_over}
 use Rattle.meaning.proofs.Text.ModelTheorems.{given_proper, given_encode, given_right}
 use Rattle.meaning.proofs.Text.ModelRight.{length_tasks, length_locations, length_edges}
-use Rattle.meaning.proofs.Text.ModelEncode.{encode_length, policy_cell, task_cells, task_none, location_first, location_none, edge_firsts, edge_none, limits_are, guard_is, resets_are}
+use Rattle.meaning.proofs.Text.ModelEncode.{policy_cell, task_cells, task_none, location_first, location_none, edge_firsts, edge_none, limits_are, guard_is, resets_are}
 use Rattle.model_table.specs.Right.{RightTable}
-use Rattle.model_table.specs.Parts.{of_task, of_location, of_edge, policy_in, work_in, deadline_in, priority_in, released_in, limit_in, from_in, to_in, bound_in, reset_in, task_of, limits_of, guard_of, resets_of, edge_of}
+use Rattle.model_table.specs.Parts.{of_task, of_location, of_edge, policy_in, released_in, limit_in, bound_in, reset_in, task_of, limits_of, guard_of, resets_of, edge_of}
 use Rattle.model_table.proofs.CellLaws.{task_out, task_in, location_out, location_in, edge_out, edge_in, limit_in_lem, bound_in_lem, bound_row, bound_column, reset_in_lem, edge_zero}
 
 pub get_d_some : {A : Type 0} (l : List A) (k : ℕ) (d x : A) → get_elem? l k ≡ some x → get_or l k d ≡ x

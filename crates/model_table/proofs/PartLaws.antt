@@ -5,14 +5,14 @@ use mathlib.Core.Path.{◌≡◌, refl, sym, ap}
 use mathlib.Core.List.{List}
 use mathlib.Core.Option.{none, some}
 use native.Mathlib.Omega.{arith}
-use lib.ListN.{length, get_or, get_elem?}
+use lib.ListN.{length}
 use Rattle.meaning.specs.Lists.{nth1}
 use Rattle.meaning.specs.Model.{Task, no_task, task_at, location_at}
 use Rattle.meaning.specs.Text.ModelTable.{decode, clocks, tasks, locations, edges}
 use Rattle.meaning.specs.Text.ModelText.{policy_number}
 use Rattle.meaning.proofs.Text.Keyed.{by_nth, each_nth}
 use Rattle.model_table.specs.Right.{RightTable}
-use Rattle.model_table.specs.Parts.{policy_in, work_in, deadline_in, priority_in, released_in, bound_in, task_of, limits_of, edge_of}
+use Rattle.model_table.specs.Parts.{policy_in, work_in, deadline_in, priority_in, released_in, bound_in, limits_of, edge_of}
 use Rattle.model_table.proofs.GivenLaws.{get_d_some, get_d_none}
 
 module _ (t : List ℕ) (g : RightTable t) where

@@ -11,7 +11,7 @@ use lib.Seq.{ext_get_or, get_or-take, length-take-le, take-take}
 use Rattle.meaning.specs.Lists.{insert_at}
 use Rattle.meaning.specs.Model.{Model}
 use Rattle.meaning.specs.Text.Ranges.{queue_most, variables_most}
-use Rattle.meaning.specs.Inner.Slots.{Slot, slot, slots, slots_of, slot_at, tasks_in}
+use Rattle.meaning.specs.Inner.Slots.{Slot, slot, slots_of, slot_at, tasks_in}
 use Rattle.meaning.specs.Inner.Places.{insert_slot, insert_slots}
 use Rattle.meaning.proofs.Lists.{map_insert_at, length_insert_at}
 use Rattle.meaning.proofs.Exact.Valuations.{length_slots}

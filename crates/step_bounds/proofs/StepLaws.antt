@@ -13,7 +13,7 @@ use lib.Seq.{length-take-le}
 use Rattle.meaning.specs.Lists.{nth1, same_list}
 use Rattle.meaning.specs.Model.{Bound, Edge, Model, leaves_at, released}
 use Rattle.meaning.specs.Machine.Release.{overflows_any}
-use Rattle.meaning.specs.Zones.Steps.{Step, by_edge, choices, places}
+use Rattle.meaning.specs.Zones.Steps.{by_edge, choices, places}
 use Rattle.meaning.specs.Zones.Reached.{Home}
 use Rattle.meaning.specs.Text.ModelTable.{decode, edges}
 use Rattle.meaning.specs.Text.Ranges.{queue_most}

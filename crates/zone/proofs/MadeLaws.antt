@@ -2,7 +2,7 @@
 -- Assumes nothing.
 use Prim.Native.Nat.{ℕ, suc, ◌+◌, ◌-◌, ◌*◌}
 use mathlib.Core.Path.{◌≡◌, refl, sym, ◌∙◌, ap, subst}
-use mathlib.Core.Logic.{◌↔◌, ◌⊎◌, inl, ⊎_elim}
+use mathlib.Core.Logic.{◌↔◌, inl, ⊎_elim}
 use mathlib.Core.List.Memᴰ
 use mathlib.Core.List.{List, [], ◌∷◌, map, Memᴰ}
 use native.Mathlib.Omega.{arith}
@@ -24,7 +24,6 @@ use Rattle.home.specs.declared.Home.{Home}
 use Rattle.zone_bounds.specs.Entries.{bounds_in, zone_with}
 use Rattle.machine.specs.Stands as S
 use Rattle.machine.specs.Stands.{task_of, queue_of, state_of}
-use Rattle.machine.specs.declared.Job.{Job}
 use Rattle.machine.specs.declared.State.{State}
 use Rattle.machine.proofs.QueueLaws.{order_is}
 use Rattle.zone.specs.declared.Zone.{Zone}

@@ -16,7 +16,6 @@ use Rattle.meaning.proofs.Lists.{mem_map_inv}
 use Rattle.meaning.proofs.Text.Choices.{by_lt}
 use Rattle.home.specs.Stands.{RightHome}
 use Rattle.machine.specs.Stands.{job_of, task_of, cell_of, queue_of, no_job, Lendable}
-use Rattle.machine.specs.declared.Job.{Job}
 use Rattle.machine.specs.declared.State.{State}
 use Rattle.machine.proofs.Arrays.{padded_length, padded_read}
 use Rattle.machine.proofs.QueueLaws.{order_is}

@@ -1,8 +1,6 @@
 -- `edge` meets its contract.
-use mathlib.Core.Path.{◌≡◌, sym, ◌∙◌, ap}
 use Rattle.machine.proofs.CellTests.{told_so, told_not}
 use Rattle.machine.proofs.LendLaws.{usable_lent}
-use borrow.Author.Rules.{rules}
 use Rattle.machine.proofs.edge.Goals as goal
 
 -- src/lib.rt:75:9

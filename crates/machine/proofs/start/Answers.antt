@@ -1,12 +1,10 @@
 -- `start` meets its contract.
-use mathlib.Core.Path.{◌≡◌, sym, ◌∙◌, ap}
+use mathlib.Core.Path.{◌∙◌, ap}
 use Rattle.model_table.proofs.GivenLaws.{given_table}
 use Rattle.machine.proofs.CellTests.{told_so, told_not}
-use Prim.Native.Nat.{ℕ}
 use Rattle.meaning.specs.Text.Refusals.{not_proper}
 use Rattle.machine.specs.Promise.{refused}
 use Rattle.machine.specs.declared.State.{State}
-use borrow.Author.Rules.{rules}
 use Rattle.machine.proofs.start.Goals as goal
 
 -- src/lib.rt:55:9

@@ -1,12 +1,11 @@
 -- Any two right answers of the check coincide.
 -- Assumes nothing.
-use mathlib.Core.Path.{◌≡◌, refl, sym, ◌∙◌, ap}
-use mathlib.Core.Option.{Option, none, some}
-use Prim.Native.Nat.{ℕ, zero, suc, ◌≤◌, ◌<◌}
+use mathlib.Core.Path.{◌≡◌, sym, ◌∙◌, ap}
+use mathlib.Core.Option.{some}
+use Prim.Native.Nat.{ℕ, zero, suc, ◌<◌}
 use native.Mathlib.Omega.{arith}
 use native.Mathlib.Decide.{dec_lt}
 use mathlib.Core.List.{List, Memᴰ}
-use lib.ListN.{length}
 use Rattle.meaning.specs.Lists.{nth1}
 use Rattle.meaning.specs.Model.{Model}
 use Rattle.meaning.specs.Machine.State.{State}

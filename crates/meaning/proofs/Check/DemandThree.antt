@@ -1,22 +1,21 @@
 -- Demand 3: what an accepted proposal promises of every run.
 -- Assumes nothing.
-use mathlib.Core.Path.{◌≡◌, refl, sym, ◌∙◌, ap, subst}
+use mathlib.Core.Path.{◌≡◌, refl, sym, ◌∙◌, subst}
 use mathlib.Core.Bool.{true}
 use mathlib.Core.List.Memᴰ
 use mathlib.Core.List.{List, [], ◌∷◌, tail, Memᴰ}
-use mathlib.Core.Option.{Option, none, some}
-use Prim.Native.Nat.{ℕ, zero, suc, ◌<◌}
+use Prim.Native.Nat.{ℕ, zero, suc}
 use lib.ListN.{get_elem?}
 use Rattle.meaning.specs.Lists.{nth1}
-use Rattle.meaning.specs.Model.{Model, task_at}
-use Rattle.meaning.specs.Machine.State.{Job, State}
+use Rattle.meaning.specs.Model.{Model}
+use Rattle.meaning.specs.Machine.State.{State}
 use Rattle.meaning.specs.Machine.Step.{Event, Outcome, went, missed, overflow, refused, allowed, act, step, after}
 use Rattle.meaning.specs.Machine.Run.{start, Run, begin, more}
 use Rattle.meaning.specs.Zones.Zone.{Zone, Proposal, InZone}
 use Rattle.meaning.specs.Zones.Steps.{Step, steps, event_of, Takes}
-use Rattle.meaning.specs.Check.Obligations.{Follow, Obligation, starts, follows, claimed, of_zones, obligations, InNumber, Good, Holds, Accepts}
+use Rattle.meaning.specs.Check.Obligations.{Follow, Obligation, starts, follows, claimed, of_zones, InNumber, Good, Accepts}
 use Rattle.meaning.specs.Check.Promise.{Somewhere, Promise}
-use Rattle.meaning.proofs.Zones.Listed.{StepOf, step_of}
+use Rattle.meaning.proofs.Zones.Listed.{step_of}
 
 -- ── a claimed zone is a proposed zone ──────────────────────────────────────────────────────────
 

@@ -1,11 +1,11 @@
 -- An obligation holds exactly where no state is at fault, and what a failure says is the only thing it can say.
 -- Assumes nothing.
-use mathlib.Core.Path.{◌≡◌, refl, sym, ◌∙◌, ap, ap₂, subst}
-use mathlib.Core.Logic.{◌⊎◌, inl, inr, ⊎_elim, ◌↔◌}
+use mathlib.Core.Path.{◌≡◌, refl, sym, ◌∙◌, ap, subst}
+use mathlib.Core.Logic.{◌⊎◌, inl, inr, ◌↔◌}
 use mathlib.Core.Bool.{Bool, true, false, cond}
-use mathlib.Core.List.{List, [], ◌∷◌, Memᴰ}
+use mathlib.Core.List.{Memᴰ}
 use mathlib.Core.Option.{Option, none, some}
-use Prim.Native.Nat.{ℕ, zero, suc, ◌+◌, ◌≤◌, ◌<◌}
+use Prim.Native.Nat.{ℕ, zero, suc, ◌≤◌, ◌<◌}
 use native.Mathlib.Omega.{arith}
 use lib.ListN.{length, get_elem?}
 use borrow.Author.Tests.{eqb-true}
@@ -20,14 +20,14 @@ use Rattle.meaning.specs.Machine.Run.{start}
 use Rattle.meaning.specs.Zones.Variables.{vars}
 use Rattle.meaning.specs.Zones.Proper.{Proper}
 use Rattle.meaning.specs.Zones.Zone.{Zone, Proposal, InZone}
-use Rattle.meaning.specs.Zones.Steps.{Step, event_of}
-use Rattle.meaning.specs.Zones.Reached.{Home, home_of, home_of_zone, home_after, Lands, ReachedBy, OverBy}
+use Rattle.meaning.specs.Zones.Steps.{event_of}
+use Rattle.meaning.specs.Zones.Reached.{Home, home_of, home_of_zone, home_after, Lands, ReachedBy}
 use Rattle.meaning.specs.Check.Obligations.{Follow, Obligation, starts, follows, InNumber, Good, Holds}
 use Rattle.meaning.specs.Check.Faults.{Fault, late_at, over, unclaimed, elsewhere, breaks, kind_of, row_of, column_of, Before, claim_of, Reached, Over, late_test, Elsewhere, BreaksZone, Breaks, AtFault, Fails}
 use Rattle.meaning.proofs.Tests.{never}
 use Rattle.meaning.proofs.Lists.{at_mem, nth_some, first_at}
 use Rattle.meaning.proofs.Machine.Proper.{WellFormed, went_proper, start_proper}
-use Rattle.meaning.proofs.Zones.Home.{mk_home, home_dec, home_in, Lies, reached_lies, below_same}
+use Rattle.meaning.proofs.Zones.Home.{home_dec, home_in, Lies, reached_lies, below_same}
 
 -- a claim names a zone, or is 0: the reader of a proposal's text makes sure of it
 abbrev pub Named : Proposal → ℕ → Type 0

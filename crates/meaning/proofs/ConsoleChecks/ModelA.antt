@@ -2,16 +2,16 @@
 -- says what it should.
 -- Assumes nothing.
 use mathlib.Core.Path.{◌≡◌, refl, sym, ◌∙◌, ap, ap₂, subst}
-use mathlib.Core.Logic.{◌⊎◌, inl, inr}
+use mathlib.Core.Logic.{inl, inr}
 use mathlib.Core.Bool.{Bool, true, false, ◌&&◌}
 use mathlib.Core.List.Memᴰ
 use mathlib.Core.List.{List, [], ◌∷◌, Memᴰ, head-eq_of_cons-eq, tail-eq_of_cons-eq, nil≢cons}
-use mathlib.Core.Option.{Option, none, some}
+use mathlib.Core.Option.{some}
 use Prim.Native.Nat.{ℕ, zero, suc, ◌+◌, ◌≤◌, ◌<◌}
 use native.Mathlib.Omega.{arith}
-use lib.Dec.{leb, ltb, eqb}
-use lib.IntN.{ℤ, pos, negsuc}
-use lib.ListN.{length, get_elem?}
+use lib.Dec.{ltb, eqb}
+use lib.IntN.{pos, negsuc}
+use lib.ListN.{length}
 use borrow.Author.Tests.{eqb-true, ltb-true, leb-true, leb-false}
 use Rattle.meaning.specs.Lists.{nth1, every, same_list}
 use Rattle.meaning.specs.Model.{Bound, Model, task_at, leaves_at, target, released, released_at_start}
@@ -23,7 +23,7 @@ use Rattle.meaning.specs.Machine.Edge.{bound_test, guard_test}
 use Rattle.meaning.specs.Machine.Step.{tick, edge, overflow, act}
 use Rattle.meaning.specs.Machine.Run.{start}
 use Rattle.meaning.specs.Zones.Variables.{vars, var}
-use Rattle.meaning.specs.Zones.Proper.{ProperJob, fits, Proper}
+use Rattle.meaning.specs.Zones.Proper.{ProperJob, fits}
 use Rattle.meaning.specs.Zones.Zone.{Zone, Proposal, InZone}
 use Rattle.meaning.specs.Zones.Steps.{Step, go_on, finish, by_edge, event_of, Takes}
 use Rattle.meaning.specs.Zones.Reached.{home_of, Lands, ReachedBy}

@@ -15,7 +15,7 @@ use lib.Seq.{get_or-set_other}
 use borrow.Author.Tests.{eqb-true, eqb-false}
 use Rattle.meaning.specs.Lists.{nth1, set1, elem, same_list}
 use Rattle.meaning.specs.Model.{Edge, Model, task_at, target, released}
-use Rattle.meaning.specs.Machine.State.{Job, State, order}
+use Rattle.meaning.specs.Machine.State.{Job, State}
 use Rattle.meaning.specs.Machine.Release.{overflows_any, put_all, positions}
 use Rattle.meaning.specs.Machine.Tick.{older, finishes, served, ticked, tick_to, late}
 use Rattle.meaning.specs.Machine.Edge.{reset_all, entered}

@@ -13,7 +13,7 @@ use lib.ListN.{get_or}
 use borrow.Author.Tests.{leb-true, leb-false, le-leb, lt-leb}
 use Rattle.meaning.specs.Lists.{nth1, nth1D, every}
 use Rattle.meaning.specs.Model.{Limit, Bound, Edge, Model, task_at, location_at, leaves_at, released}
-use Rattle.meaning.specs.Machine.State.{Job, State, order}
+use Rattle.meaning.specs.Machine.State.{Job, State}
 use Rattle.meaning.specs.Machine.Tick.{limit_test, tick_allowed, finishes}
 use Rattle.meaning.specs.Machine.Edge.{bound_test, guard_test}
 use Rattle.meaning.specs.Machine.Step.{edge_allowed}

@@ -5,10 +5,8 @@ use mathlib.Core.Bool.{Bool, false, true}
 use mathlib.Core.List.{List, [], ◌++◌, ◌∷◌, append_assoc, append-nil, map}
 use mathlib.Core.Path.{◌∙◌, ◌≡◌, ap, refl, sym}
 use native.Mathlib.Omega.{arith}
-use lib.Dec.{eqb}
 use lib.ListN.{get_or}
 use borrow.Author.Tests.{le-ltb, lt-ltb, ltb-false, ltb-true, ne_eqb}
-use Rattle.meaning.proofs.Text.Choices.{by_eq}
 use Rattle.meaning.proofs.Text.ModelCells.{at_limit, at_location, at_task, in_edge}
 use Rattle.meaning.proofs.Text.ModelLaws.{guard_in_lem, lawful, model_write_read, reset_in_lem}
 use Rattle.meaning.proofs.Text.ModelShape.{clocks_there, guard_there, location_there, policy_is, policy_there, reset_there, reset_value}
@@ -21,7 +19,6 @@ use Rattle.meaning.specs.Text.Lines.{fields_text}
 use Rattle.meaning.specs.Text.ModelReader.{format, get, keys_at, line, line_of, mark_at, mark_in_edge, width, words}
 use Rattle.meaning.specs.Text.ModelTable.{collect, decode, edge_in, guard_in, limits_in, location_in, lowered, resets_in, size, task_in, there}
 use Rattle.meaning.specs.Text.ModelText.{Mark, bound_text, ck, ed, edge_text, en, form, gu, iv, limit_text, lo, location_text, model_text, other, po, policy_number, policy_of, raised, record_text, reset_text, rs, task_text, texts, tk}
-use Rattle.meaning.specs.Text.Numerals.{number}
 use Rattle.meaning.specs.Text.Ranges.{time_most}
 use Rattle.meaning.specs.Text.Records.{Answer, done, lines_to, read, write}
 

@@ -5,7 +5,6 @@ use mathlib.Core.List.{List}
 use mathlib.Core.Option.{none, some}
 use mathlib.Core.Path.{◌∙◌, ◌≡◌, ap, refl, sym}
 use native.Mathlib.Omega.{arith}
-use lib.Dec.{eqb}
 use lib.IntN.{ℤ}
 use lib.ListN.{get_or, get_elem?, length}
 use borrow.Author.Tests.{le-ltb, lt-ltb, ne_eqb}
@@ -13,7 +12,6 @@ use Rattle.meaning.proofs.Text.Keyed.{collect_all, collect_same, each_map, each_
 use Rattle.meaning.proofs.Text.BoundLaws.{key_rising, lowered_of}
 use Rattle.meaning.specs.Model.{Bound, Edge, Limit, Location, Model, Task}
 use Rattle.meaning.specs.Numbers.{under}
-use Rattle.meaning.specs.Text.Choice.{pick}
 use Rattle.meaning.specs.Text.ModelTable.{cell, collect, decode, edge_cell, edge_in, encode, guard_in, keyed, limits_in, location_cell, location_in, lowered, resets_in, size, tabulate, task_cell, task_in, there}
 use Rattle.meaning.specs.Text.ModelText.{policy_number, policy_of, raised}
 use Rattle.meaning.proofs.Text.Policies.{policy_back}

@@ -3,14 +3,12 @@
 use Prim.Native.Nat.{◌%◌, ◌*◌, ◌+◌, ◌-◌, ◌/◌, ◌<◌, ◌≤◌, suc, zero, ℕ}
 use mathlib.Core.Bool.{Bool, ◌&&◌, false, true}
 use mathlib.Core.List.{List, [], ◌++◌, ◌∷◌, map}
-use mathlib.Core.Option.{some}
 use mathlib.Core.Path.{◌∙◌, ◌≡◌, ap, refl, subst, sym}
 use native.Mathlib.Omega.{arith}
 use lib.Dec.{leb, ltb}
 use lib.ListN.{get_or-eq_default, drop, drop_of_length-le, get_or, get_or-replicate, length, length-drop, length-replicate, replicate}
 use lib.Seq.{length-sets, sets}
 use borrow.Author.Tests.{le-leb, le-ltb, lt-ltb, ltb-false, ltb-true, ne_eqb}
-use borrow.Fn.PlainCycle.{is}
 use Rattle.meaning.proofs.Text.Choices.{and_true, by_eq, by_lt, by_pick, nonsense}
 use Rattle.meaning.proofs.Text.LineLaws.{Tame, Within, belows, fields_inv, fields_read}
 use Rattle.meaning.proofs.Text.ModelCells.{at_limit, at_location, at_task, count_le, in_edge, own_cell, owner, sets_first, sets_other, words_same, words_sets}

@@ -1,14 +1,13 @@
 -- The model that a proper table holds is one that a text can say.
 -- Assumes nothing.
 use Prim.Native.Nat.{◌%◌, ◌*◌, ◌+◌, ◌-◌, ◌/◌, ◌<◌, ◌≤◌, suc, zero, ℕ}
-use mathlib.Core.Bool.{Bool, ◌&&◌, ◌||◌, false, true}
+use mathlib.Core.Bool.{◌&&◌, ◌||◌, false, true}
 use mathlib.Core.List.{List}
-use mathlib.Core.Option.{none, some}
 use mathlib.Core.Path.{◌∙◌, ◌≡◌, ap, refl, sym}
 use native.Mathlib.Omega.{arith}
 use lib.Dec.{eqb, ltb}
 use lib.ListN.{get_or, length}
-use borrow.Author.Tests.{eq-eqb, eqb-false, eqb-true, le-ltb, lt-ltb, ltb-false, ltb-true, ne_eqb}
+use borrow.Author.Tests.{eq-eqb, eqb-false, le-ltb, lt-ltb, ltb-false, ltb-true, ne_eqb}
 use Rattle.meaning.proofs.Text.Choices.{by_eq, by_lt, by_pick, nonsense, or_false}
 use Rattle.meaning.proofs.Text.Collects.{collect_length, each_collect, ordered_collect}
 use Rattle.meaning.proofs.Text.ModelCells.{at_limit, at_location, at_task, count_le, get_words, in_edge}
@@ -18,7 +17,6 @@ use Rattle.meaning.proofs.Text.ModelShape.{at_from, below, count_same, count_som
 use Rattle.meaning.proofs.Text.RecordLaws.{Proper}
 use Rattle.meaning.proofs.Text.RecordParts.{part_below}
 use Rattle.meaning.specs.Model.{Bound, Limit, Policy, Task, edf, fps, sjf}
-use Rattle.meaning.specs.Text.Choice.{pick}
 use Rattle.meaning.specs.Text.Lines.{around, between}
 use Rattle.meaning.specs.Text.ModelReader.{cells, format, get, mark_at, misfit, rule, used, width, words}
 use Rattle.meaning.specs.Text.ModelTable.{clocks, collect, decode, edge_in, edges, guard_in, limits_in, location_in, locations, lowered, resets_in, size, task_in, tasks, there}

@@ -9,7 +9,6 @@ use native.Mathlib.Omega.{arith}
 use lib.Dec.{eqb, leb}
 use lib.ListN.{length}
 use borrow.Author.Tests.{eqb-true, le-leb, le-ltb, lt-ltb, ne_eqb}
-use borrow.Fn.PlainCycle.{is}
 use Rattle.meaning.proofs.Text.Choices.{by_lt}
 use Rattle.meaning.proofs.Text.NumeralLaws.{digit_low, push_le, two_tests}
 use Rattle.meaning.specs.Text.Choice.{pick}

@@ -4,10 +4,10 @@ use mathlib.Core.Path.{◌≡◌, refl, sym, ◌∙◌, ap, ap₂, subst}
 use mathlib.Core.Bool.{Bool, true, false, cond}
 use mathlib.Core.List.{List, [], ◌∷◌, ◌++◌, tail, List-discrete, nil≢cons, head-eq_of_cons-eq, tail-eq_of_cons-eq}
 use mathlib.Core.Option.{Option, none, some}
-use Prim.Native.Nat.{ℕ, zero, suc, ◌+◌, ◌≤◌, ◌<◌}
+use Prim.Native.Nat.{ℕ, zero, suc, ◌+◌}
 use native.Mathlib.Omega.{arith}
 use native.Mathlib.Decide.{ℕ_discrete}
-use lib.ListN.{length, get_or, length-map, length-append}
+use lib.ListN.{length, length-map, length-append}
 use lib.Seq.{ext_get_or}
 use Rattle.meaning.specs.Lists.{nth1, same_list}
 use Rattle.meaning.specs.Model.{Edge, Model, target, released}
@@ -16,7 +16,7 @@ use Rattle.meaning.specs.Machine.Release.{overflows_any, put, put_all, positions
 use Rattle.meaning.specs.Machine.Tick.{finishes, served, tick_to, late}
 use Rattle.meaning.specs.Machine.Edge.{entered}
 use Rattle.meaning.specs.Machine.Step.{tick, overflow, went, judged, moved_by, act}
-use Rattle.meaning.specs.Zones.Variables.{queue_vars, vars, var, variables}
+use Rattle.meaning.specs.Zones.Variables.{queue_vars, vars, variables}
 use Rattle.meaning.specs.Zones.Zone.{Zone, InZone}
 use Rattle.meaning.specs.Zones.Steps.{Step, go_on, finish, by_edge, event_of, taken_by, Takes}
 use Rattle.meaning.specs.Zones.Reached.{Home, home_of, home_of_zone, insert_all, home_by, home_after, Lands, ReachedBy}

@@ -1,15 +1,14 @@
 -- Any two tightest bounds coincide, and so do any two right replies of a zone's step.
 -- Assumes nothing.
-use mathlib.Core.Path.{◌≡◌, refl, sym, ◌∙◌, ap, ap₂, subst}
-use mathlib.Core.Logic.{◌⊎◌, inl, inr, ⊎_elim}
+use mathlib.Core.Path.{◌≡◌, refl, sym, ◌∙◌, ap, subst}
+use mathlib.Core.Logic.{inl, inr}
 use mathlib.Core.Bool.{Bool, true, false}
 use mathlib.Core.Option.{Option, none, some}
-use Prim.Native.Nat.{ℕ, zero, suc, ◌+◌, ◌≤◌, ◌<◌}
+use Prim.Native.Nat.{ℕ, ◌+◌, ◌≤◌, ◌<◌}
 use native.Mathlib.Omega.{arith}
 use native.Mathlib.Decide.{dec_lt}
-use lib.IntN.{ℤ, pos, neg_ℤ}
-use lib.ListN.{length}
-use Rattle.meaning.specs.Numbers.{over, under, within}
+use lib.IntN.{ℤ, neg_ℤ}
+use Rattle.meaning.specs.Numbers.{over, under}
 use Rattle.meaning.specs.Model.{Model}
 use Rattle.meaning.specs.Machine.State.{State}
 use Rattle.meaning.specs.Zones.Variables.{var, variables}

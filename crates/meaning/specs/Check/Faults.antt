@@ -12,7 +12,7 @@ use Rattle.meaning.specs.Machine.Run.{start}
 use Rattle.meaning.specs.Zones.Variables.{vars, var}
 use Rattle.meaning.specs.Zones.Zone.{Zone, Proposal}
 use Rattle.meaning.specs.Zones.Reached.{home_of, home_of_zone, ReachedBy, OverBy}
-use Rattle.meaning.specs.Check.Obligations.{Follow, Obligation, starts, follows}
+use Rattle.meaning.specs.Check.Obligations.{Obligation, starts, follows}
 
 -- "1 a miss (the first position ..); 2 an overflow; 3 the claim is 0; 4 the claimed zone has another location or queue order;
 -- 5 the claimed zone's bounds are broken (the first broken bound, row by row)", by its i and j

@@ -4,7 +4,7 @@ use Rattle.std.specs.Prelude.{◌≡◌, true, ℕ, ◌<◌}
 use mathlib.Core.List.{Memᴰ}
 use Rattle.meaning.specs.Model.{Model, task_at}
 use Rattle.meaning.specs.Machine.State.{Job, State}
-use Rattle.meaning.specs.Machine.Step.{Event, allowed, Outcome, missed, overflow, step}
+use Rattle.meaning.specs.Machine.Step.{Event, allowed, missed, overflow, step}
 use Rattle.meaning.specs.Machine.Run.{Run}
 use Rattle.meaning.specs.Zones.Zone.{Zone, Proposal, InZone}
 

@@ -1,8 +1,7 @@
 -- `bound` meets its contract.
 use Rattle.model_table.proofs.CellLaws.{bound_row, bound_column, bound_in_lem}
-use mathlib.Core.Path.{◌≡◌, refl, sym, ◌∙◌, ap}
+use mathlib.Core.Path.{sym, ◌∙◌}
 use native.Mathlib.Omega.{arith}
-use borrow.Author.Rules.{rules}
 use Rattle.model_table.proofs.bound.Goals as goal
 
 -- src/lib.rt:91:9

@@ -1,8 +1,7 @@
 -- `limit` meets its contract.
 use Rattle.model_table.proofs.CellLaws.{limit_zero, limit_out, limit_in_lem}
-use mathlib.Core.Path.{◌≡◌, refl, sym, ◌∙◌, ap}
+use mathlib.Core.Path.{sym, ◌∙◌}
 use native.Mathlib.Omega.{arith}
-use borrow.Author.Rules.{rules}
 use Rattle.model_table.proofs.limit.Goals as goal
 
 -- src/lib.rt:64:9

@@ -1,10 +1,9 @@
 -- `reset` meets its contract.
 use Rattle.model_table.proofs.CellLaws.{reset_zero, reset_out, reset_in_lem}
-use mathlib.Core.Path.{◌≡◌, refl, sym, ◌∙◌, ap}
+use mathlib.Core.Path.{sym, ◌∙◌, ap}
 use native.Mathlib.Omega.{arith}
 use lib.Dec.{ltb}
 use Prim.Native.Nat.{ℕ}
-use borrow.Author.Rules.{rules}
 use Rattle.model_table.proofs.reset.Goals as goal
 
 -- src/lib.rt:112:9

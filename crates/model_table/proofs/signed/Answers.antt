@@ -1,14 +1,13 @@
 -- `signed` meets its contract.
-use mathlib.Core.Path.{◌≡◌, ◌∙◌, sym, subst}
+use mathlib.Core.Path.{◌≡◌, sym, subst}
 use Prim.Native.Nat.{ℕ, ◌≤◌, ◌<◌, ◌-◌}
 use native.Mathlib.Omega.{arith}
-use lib.IntN.{ℤ, pos, neg_ℤ, ◌-ℤ◌}
+use lib.IntN.{pos, ◌-ℤ◌}
 use mir.Syntax.{w32}
-use mir.Val.{SFits, to_z, of_z}
+use mir.Val.{SFits, to_z}
 use mir.ValLaws.{to_z_pos, to_z-of_z}
 use Rattle.meaning.specs.Text.ModelTable.{lowered}
 use Rattle.model_table.proofs.SignedLaws.{less_is, lowered_fits}
-use borrow.Author.Rules.{rules}
 use Rattle.model_table.proofs.signed.Goals as goal
 
 -- what is computed is the number that the cell keeps

@@ -1,14 +1,8 @@
 -- `bounds::image::remap` meets its contract. Both loops have one invariant, over the index a * 17 + b that is reached.
 use mathlib.Core.Path.{◌∙◌}
-use mathlib.Core.List.{List}
-use Prim.Native.Nat.{ℕ, ◌+◌, ◌-◌, ◌*◌, ◌≤◌}
+use Prim.Native.Nat.{◌+◌, ◌*◌}
 use native.Mathlib.Omega.{arith}
-use lib.IntN.{ℤ, pos}
-use lib.ListN.{replicate}
 use borrow.Author.Rules.{rules}
-use Rattle.bounds.specs.Matrix.{ent, at}
-use Rattle.bounds.specs.Images.{var}
-use Rattle.bounds.specs.Inner.{Shift}
 use Rattle.bounds.proofs.Signed.{back, rd}
 use Rattle.bounds.proofs.Store.{zeros_z}
 use Rattle.bounds.proofs.Grid as G

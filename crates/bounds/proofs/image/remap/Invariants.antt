@@ -1,19 +1,12 @@
 -- What the loops of `remap` keep, and how they end.
-use mathlib.Core.Path.{◌∙◌}
 use mathlib.Core.List.{List}
 use Prim.Native.Nat.{ℕ, ◌+◌, ◌-◌, ◌*◌, ◌≤◌}
-use native.Mathlib.Omega.{arith}
 use lib.IntN.{ℤ, pos}
 use lib.ListN.{replicate}
-use borrow.Author.Rules.{rules}
 use Rattle.bounds.specs.Matrix.{ent, at}
 use Rattle.bounds.specs.Images.{var}
 use Rattle.bounds.specs.Inner.{Shift}
-use Rattle.bounds.proofs.Signed.{back, rd}
-use Rattle.bounds.proofs.Store.{zeros_z}
-use Rattle.bounds.proofs.Grid as G
 use Rattle.bounds.proofs.Grid.{Upto}
-use Rattle.bounds.proofs.Mapping.{remapped, maps_index}
 use Rattle.bounds.proofs.image.remap.Given as goal
 
 -- Assumes nothing.

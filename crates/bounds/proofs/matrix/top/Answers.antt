@@ -1,10 +1,7 @@
 -- `bounds::matrix::top` meets its contract.
-use mathlib.Core.Path.{◌≡◌}
-use Prim.Native.Nat.{ℕ, ◌-◌, ◌/◌, ◌%◌, ◌<◌, ◌≤◌}
+use Prim.Native.Nat.{◌/◌, ◌%◌}
 use native.Mathlib.Omega.{arith}
-use lib.ListN.{length}
 use borrow.Author.Rules.{rules}
-use Rattle.bounds.specs.Matrix.{ent}
 use Rattle.bounds.specs.Inner.{Unknown}
 use Rattle.bounds.proofs.Theory.{widest}
 use Rattle.bounds.proofs.Signed.{back, rd}

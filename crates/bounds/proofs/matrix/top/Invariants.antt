@@ -1,14 +1,9 @@
 -- What the loops of `top` keep, and how they end.
 use mathlib.Core.Path.{◌≡◌}
 use Prim.Native.Nat.{ℕ, ◌-◌, ◌/◌, ◌%◌, ◌<◌, ◌≤◌}
-use native.Mathlib.Omega.{arith}
 use lib.ListN.{length}
-use borrow.Author.Rules.{rules}
 use Rattle.bounds.specs.Matrix.{ent}
 use Rattle.bounds.specs.Inner.{Unknown}
-use Rattle.bounds.proofs.Theory.{widest}
-use Rattle.bounds.proofs.Signed.{back, rd}
-use Rattle.bounds.proofs.Store.{stored}
 use Rattle.bounds.proofs.matrix.top.Given as goal
 
 -- Assumes nothing.

@@ -1,6 +1,5 @@
 -- `home::edges::entering` meets its contract.
 use Rattle.home.proofs.EdgeLaws.{lists_same, lists_one, enters_none, enters_one}
-use borrow.Author.Rules.{rules}
 use Rattle.home.proofs.edges.entering.Goals as goal
 
 pub returns-then-task-eq0 : goal.returns-then-task-eq0

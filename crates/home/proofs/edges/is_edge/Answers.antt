@@ -1,6 +1,5 @@
 -- `home::edges::is_edge` meets its contract.
 use Rattle.home.proofs.EdgeLaws.{named_zero, named_by}
-use borrow.Author.Rules.{rules}
 use Rattle.home.proofs.edges.is_edge.Goals as goal
 
 -- Assumes nothing.

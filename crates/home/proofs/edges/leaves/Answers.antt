@@ -1,6 +1,5 @@
 -- `home::edges::leaves` meets its contract.
 use Rattle.home.proofs.EdgeLaws.{leaves_some, leaves_none}
-use borrow.Author.Rules.{rules}
 use Rattle.home.proofs.edges.leaves.Goals as goal
 
 pub returns-then-is_edge : goal.returns-then-is_edge

@@ -1,6 +1,5 @@
 -- `home::edges::released_by` meets its contract.
 use Rattle.home.proofs.EdgeLaws.{lists_same, released_some, released_none}
-use borrow.Author.Rules.{rules}
 use Rattle.home.proofs.edges.released_by.Goals as goal
 
 pub returns-then-is_edge : goal.returns-then-is_edge

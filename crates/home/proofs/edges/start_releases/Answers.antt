@@ -2,7 +2,6 @@
 use mathlib.Core.Path.{sym}
 use Rattle.meaning.proofs.Hooks.{released_at_start_is}
 use Rattle.home.proofs.EdgeLaws.{lists_same}
-use borrow.Author.Rules.{rules}
 use Rattle.home.proofs.edges.start_releases.Goals as goal
 
 pub returns : goal.returns

@@ -1,6 +1,5 @@
 -- `home::edges::target` meets its contract.
 use Rattle.home.proofs.EdgeLaws.{target_some, target_none}
-use borrow.Author.Rules.{rules}
 use Rattle.home.proofs.edges.target.Goals as goal
 
 pub returns-then-is_edge : goal.returns-then-is_edge

@@ -3,7 +3,6 @@ use mathlib.Core.Path.{sym, ◌∙◌}
 use Prim.Native.Nat.{suc}
 use native.Mathlib.Omega.{arith}
 use Rattle.home.proofs.HomeLaws.{ahead_is}
-use borrow.Author.Rules.{rules}
 use Rattle.home.proofs.numbering.sum_ahead.Goals as goal
 
 pub returns : goal.returns

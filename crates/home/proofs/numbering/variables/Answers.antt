@@ -1,7 +1,6 @@
 -- `home::numbering::variables` meets its contract.
 use native.Mathlib.Omega.{arith}
 use Rattle.model_table.proofs.PartLaws.{clocks_is}
-use borrow.Author.Rules.{rules}
 use Rattle.home.proofs.numbering.variables.Goals as goal
 
 pub returns : goal.returns

@@ -1,12 +1,7 @@
 -- What the loops of `without_head` keep, and how they end.
-use mathlib.Core.Path.{◌≡◌, sym, ◌∙◌, ap}
-use Prim.Native.Nat.{ℕ, suc, ◌+◌, ◌-◌, ◌<◌, ◌≤◌}
-use native.Mathlib.Omega.{arith}
-use native.Mathlib.Decide.{dec_lt}
-use native.Mathlib.Numerals.{add-one}
-use borrow.Author.Rules.{rules}
-use lib.ListN.{length, get_or, get_or-eq_default}
-use Rattle.home.proofs.OrderLaws.{zeros, stored, beyond}
+use mathlib.Core.Path.{◌≡◌}
+use Prim.Native.Nat.{ℕ, suc, ◌-◌, ◌<◌, ◌≤◌}
+use lib.ListN.{length, get_or}
 use Rattle.home.proofs.order.without_head.Given as goal
 
 -- Assumes nothing.

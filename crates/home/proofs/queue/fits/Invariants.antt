@@ -1,15 +1,10 @@
 -- What the loops of `fits` keep, and how they end.
-use mathlib.Core.Path.{◌≡◌, sym, ◌∙◌, ap}
-use Prim.Native.Nat.{ℕ, ◌+◌, ◌-◌}
-use lib.ListN.{length, get_or, take, drop, length-drop}
-use lib.Seq.{get_or-take, length-take-le}
+use mathlib.Core.Path.{◌≡◌}
+use Prim.Native.Nat.{◌-◌}
+use lib.ListN.{length, take}
 use Rattle.meaning.specs.Text.ModelTable.{decode}
-use Rattle.meaning.specs.Machine.Release.{overflows}
 use Rattle.meaning.specs.Zones.Proper.{fits}
-use Rattle.home.proofs.Walks.{Walk, walk_start}
-use Rattle.home.proofs.QueueLaws.{fits_more, fits_stop, fits_end}
-use borrow.Author.Rules.{rules}
-use native.Mathlib.Omega.{arith}
+use Rattle.home.proofs.Walks.{Walk}
 use Rattle.home.proofs.queue.fits.Given as goal
 
 -- Assumes nothing.

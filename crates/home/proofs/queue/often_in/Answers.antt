@@ -1,10 +1,8 @@
 -- `home::queue::often_in` meets its contract.
 use mathlib.Core.Path.{sym}
-use Prim.Native.Nat.{◌-◌, ◌≤◌}
 use lib.ListN.{get_or, take}
 use lib.Seq.{get_or-take, length-take-le}
-use Rattle.home.proofs.QueueLaws.{Met, met_start, met_more, met_end}
-use borrow.Author.Rules.{rules}
+use Rattle.home.proofs.QueueLaws.{met_start, met_more, met_end}
 use native.Mathlib.Omega.{arith}
 use Rattle.home.proofs.queue.often_in.Goals as goal
 

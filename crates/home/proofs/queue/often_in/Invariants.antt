@@ -1,11 +1,7 @@
 -- What the loops of `often_in` keep, and how they end.
-use mathlib.Core.Path.{sym}
 use Prim.Native.Nat.{◌-◌, ◌≤◌}
-use lib.ListN.{get_or, take}
-use lib.Seq.{get_or-take, length-take-le}
-use Rattle.home.proofs.QueueLaws.{Met, met_start, met_more, met_end}
-use borrow.Author.Rules.{rules}
-use native.Mathlib.Omega.{arith}
+use lib.ListN.{take}
+use Rattle.home.proofs.QueueLaws.{Met}
 use Rattle.home.proofs.queue.often_in.Given as goal
 
 -- Assumes nothing.

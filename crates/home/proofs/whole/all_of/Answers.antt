@@ -1,10 +1,9 @@
 -- `home::whole::all_of` meets its contract.
-use mathlib.Core.Path.{◌≡◌, sym, ◌∙◌}
-use Prim.Native.Nat.{◌-◌}
-use lib.ListN.{length, get_or, take}
+use mathlib.Core.Path.{sym, ◌∙◌}
+use lib.ListN.{get_or, take}
 use lib.Seq.{get_or-take, length-take-le}
-use Rattle.home.specs.ByCell.{is_of, all_of}
-use Rattle.home.proofs.Walks.{Walk, walk_start, every_next, every_wrong, every_end}
+use Rattle.home.specs.ByCell.{is_of}
+use Rattle.home.proofs.Walks.{walk_start, every_next, every_wrong, every_end}
 use borrow.Author.Rules.{rules}
 use native.Mathlib.Omega.{arith}
 use Rattle.home.proofs.whole.all_of.Goals as goal

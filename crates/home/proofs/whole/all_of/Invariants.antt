@@ -1,12 +1,9 @@
 -- What the loops of `all_of` keep, and how they end.
-use mathlib.Core.Path.{◌≡◌, sym, ◌∙◌}
+use mathlib.Core.Path.{◌≡◌}
 use Prim.Native.Nat.{◌-◌}
-use lib.ListN.{length, get_or, take}
-use lib.Seq.{get_or-take, length-take-le}
-use Rattle.home.specs.ByCell.{is_of, all_of}
-use Rattle.home.proofs.Walks.{Walk, walk_start, every_next, every_wrong, every_end}
-use borrow.Author.Rules.{rules}
-use native.Mathlib.Omega.{arith}
+use lib.ListN.{length, take}
+use Rattle.home.specs.ByCell.{all_of}
+use Rattle.home.proofs.Walks.{Walk}
 use Rattle.home.proofs.whole.all_of.Given as goal
 
 -- Assumes nothing.

@@ -8,7 +8,6 @@ use Rattle.model_table.proofs.PartLaws.{tasks_is}
 use Rattle.home.specs.ByCell.{all_of}
 use Rattle.home.proofs.Walks.{is_not}
 use Rattle.home.proofs.WholeLaws.{cells_tasks, cells_unused, cells_make}
-use borrow.Author.Rules.{rules}
 use Rattle.home.proofs.whole.is_order.Goals as goal
 
 pub returns-then-fits : goal.returns-then-fits

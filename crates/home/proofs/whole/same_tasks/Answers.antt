@@ -1,7 +1,5 @@
 -- `home::whole::same_tasks` meets its contract.
 use mathlib.Core.Path.{◌≡◌, refl}
-use Prim.Native.Nat.{◌-◌, ◌≤◌}
-use lib.ListN.{length, take}
 use Rattle.home.proofs.Walks.{is_so, is_not}
 use Rattle.home.proofs.WholeLaws.{same_more, same_not}
 use borrow.Author.Rules.{rules}

@@ -1,11 +1,7 @@
 -- What the loops of `same_tasks` keep, and how they end.
-use mathlib.Core.Path.{◌≡◌, refl}
+use mathlib.Core.Path.{◌≡◌}
 use Prim.Native.Nat.{◌-◌, ◌≤◌}
 use lib.ListN.{length, take}
-use Rattle.home.proofs.Walks.{is_so, is_not}
-use Rattle.home.proofs.WholeLaws.{same_more, same_not}
-use borrow.Author.Rules.{rules}
-use native.Mathlib.Omega.{arith}
 use Rattle.home.proofs.whole.same_tasks.Given as goal
 
 -- Assumes nothing.

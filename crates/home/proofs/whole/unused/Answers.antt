@@ -1,11 +1,10 @@
 -- `home::whole::unused` meets its contract.
-use mathlib.Core.Path.{◌≡◌, refl}
-use Prim.Native.Nat.{ℕ, ◌-◌}
+use mathlib.Core.Path.{refl}
+use Prim.Native.Nat.{ℕ}
 use lib.Dec.{eqb}
-use lib.ListN.{length, get_or}
+use lib.ListN.{get_or}
 use borrow.Author.Tests.{eq-eqb, ne_eqb}
-use Rattle.home.specs.ByCell.{all_zero}
-use Rattle.home.proofs.Walks.{Walk, walk_start, every_next, every_wrong, every_end}
+use Rattle.home.proofs.Walks.{walk_start, every_next, every_wrong, every_end}
 use borrow.Author.Rules.{rules}
 use native.Mathlib.Omega.{arith}
 use Rattle.home.proofs.whole.unused.Goals as goal

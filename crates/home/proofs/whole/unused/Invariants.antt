@@ -1,13 +1,9 @@
 -- What the loops of `unused` keep, and how they end.
-use mathlib.Core.Path.{◌≡◌, refl}
-use Prim.Native.Nat.{ℕ, ◌-◌}
-use lib.Dec.{eqb}
-use lib.ListN.{length, get_or}
-use borrow.Author.Tests.{eq-eqb, ne_eqb}
+use mathlib.Core.Path.{◌≡◌}
+use Prim.Native.Nat.{◌-◌}
+use lib.ListN.{length}
 use Rattle.home.specs.ByCell.{all_zero}
-use Rattle.home.proofs.Walks.{Walk, walk_start, every_next, every_wrong, every_end}
-use borrow.Author.Rules.{rules}
-use native.Mathlib.Omega.{arith}
+use Rattle.home.proofs.Walks.{Walk}
 use Rattle.home.proofs.whole.unused.Given as goal
 
 -- Assumes nothing.

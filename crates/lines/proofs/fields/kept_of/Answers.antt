@@ -1,7 +1,6 @@
 -- `kept_of` meets its contract.
 use borrow.Author.Tests.{lt-ltb, le-ltb}
 use Rattle.meaning.specs.Text.Lines.{kept}
-use borrow.Author.Rules.{rules}
 use Rattle.lines.proofs.fields.kept_of.Goals as goal
 
 pub returns-then-below-size : goal.returns-then-below-size

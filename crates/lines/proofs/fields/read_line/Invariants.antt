@@ -1,14 +1,6 @@
 -- What the loops of `read_line` keep, and how they end.
-use Prim.Native.Nat.{ℕ, ◌+◌, ◌-◌}
-use mathlib.Core.Path.{refl, sym, ap, ◌∙◌, subst}
-use lib.ListN.{get_or, set}
-use Rattle.meaning.proofs.Text.Places.{in_text, field_next}
-use Rattle.meaning.specs.Text.Lines.{outside, between}
-use Rattle.meaning.proofs.Text.NumeralSmall.{field_small}
-use Rattle.lines.specs.Meant.{meant, first_out}
-use Rattle.lines.proofs.Laws.Reading.{Reading, reading_first, reading_more, reading_bad, line_ends, line_out, line_open}
-use borrow.Author.Rules.{rules}
-use native.Mathlib.Omega.{arith}
+use Prim.Native.Nat.{◌-◌}
+use Rattle.lines.proofs.Laws.Reading.{Reading}
 use Rattle.lines.proofs.fields.read_line.Given as goal
 
 -- Assumes nothing.

@@ -1,12 +1,10 @@
 -- `read_digits` meets its contract.
-use borrow.Author.Rules.{rules}
 use native.Mathlib.Omega.{arith}
-use Prim.Native.Nat.{◌≤◌, ◌-◌}
 use borrow.Author.Tests.{not-true, not-false}
 use mathlib.Core.Bool.{true, false}
 use mathlib.Core.Path.{◌≡◌, sym, ◌∙◌}
-use lib.ListN.{length, drop, get_or}
-use Rattle.meaning.specs.Text.Numerals.{too_large, digits, is_digit}
+use lib.ListN.{get_or}
+use Rattle.meaning.specs.Text.Numerals.{is_digit}
 use Rattle.meaning.proofs.Text.NumeralLaws.{digit_low, push_le, digits_more, digits_stop, digits_end}
 use Rattle.lines.proofs.numerals.read_digits.Goals as goal
 

@@ -1,13 +1,8 @@
 -- What the loops of `read_digits` keep, and how they end.
-use borrow.Author.Rules.{rules}
-use native.Mathlib.Omega.{arith}
 use Prim.Native.Nat.{◌≤◌, ◌-◌}
-use borrow.Author.Tests.{not-true, not-false}
-use mathlib.Core.Bool.{true, false}
-use mathlib.Core.Path.{◌≡◌, sym, ◌∙◌}
-use lib.ListN.{length, drop, get_or}
-use Rattle.meaning.specs.Text.Numerals.{too_large, digits, is_digit}
-use Rattle.meaning.proofs.Text.NumeralLaws.{digit_low, push_le, digits_more, digits_stop, digits_end}
+use mathlib.Core.Path.{◌≡◌}
+use lib.ListN.{length, drop}
+use Rattle.meaning.specs.Text.Numerals.{too_large, digits}
 use Rattle.lines.proofs.numerals.read_digits.Given as goal
 
 -- Assumes nothing.

@@ -1,5 +1,4 @@
 -- `read_number` meets its contract.
-use borrow.Author.Rules.{rules}
 use borrow.Author.Tests.{not-true, not-false}
 use Rattle.meaning.specs.Text.Numerals.{negated}
 use Rattle.lines.specs.Meant.{meant}

@@ -1,5 +1,4 @@
 -- `read_positive` meets its contract.
-use borrow.Author.Rules.{rules}
 use native.Mathlib.Omega.{arith}
 use mathlib.Core.Path.{sym, ◌∙◌}
 use Rattle.meaning.proofs.Text.NumeralLaws.{positive_end, positive_low, positive_high, positive_ok}

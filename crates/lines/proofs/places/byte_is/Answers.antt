@@ -1,5 +1,4 @@
 -- `byte_is` meets its contract.
-use borrow.Author.Rules.{rules}
 use mathlib.Core.Path.{sym}
 use Rattle.meaning.proofs.Text.Places.{past_text}
 use Rattle.lines.proofs.places.byte_is.Goals as goal

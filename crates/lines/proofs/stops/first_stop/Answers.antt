@@ -1,10 +1,6 @@
 -- `first_stop` meets its contract.
-use borrow.Author.Rules.{rules}
 use native.Mathlib.Omega.{arith}
-use Prim.Native.Nat.{◌+◌, ◌-◌}
-use mathlib.Core.Path.{◌≡◌, sym, ◌∙◌}
-use lib.ListN.{length, drop}
-use Rattle.meaning.specs.Text.Records.{first_stop}
+use mathlib.Core.Path.{sym, ◌∙◌}
 use Rattle.lines.proofs.Laws.Stops.{stop_here, stop_later, stop_none}
 use Rattle.lines.proofs.stops.first_stop.Goals as goal
 

@@ -1,11 +1,8 @@
 -- What the loops of `first_stop` keep, and how they end.
-use borrow.Author.Rules.{rules}
-use native.Mathlib.Omega.{arith}
 use Prim.Native.Nat.{◌+◌, ◌-◌}
-use mathlib.Core.Path.{◌≡◌, sym, ◌∙◌}
+use mathlib.Core.Path.{◌≡◌}
 use lib.ListN.{length, drop}
 use Rattle.meaning.specs.Text.Records.{first_stop}
-use Rattle.lines.proofs.Laws.Stops.{stop_here, stop_later, stop_none}
 use Rattle.lines.proofs.stops.first_stop.Given as goal
 
 -- Assumes nothing.

@@ -1,11 +1,9 @@
 -- `write_fields` meets its contract.
-use borrow.Author.Rules.{rules}
 use native.Mathlib.Omega.{arith}
-use Prim.Native.Nat.{◌-◌, ◌<◌, ◌≤◌}
-use mathlib.Core.Path.{◌≡◌, refl, ◌∙◌}
+use Prim.Native.Nat.{◌<◌}
+use mathlib.Core.Path.{refl, ◌∙◌}
 use lib.ListN.{length, length-set}
-use Rattle.lines.specs.Put.{Put}
-use Rattle.lines.proofs.Laws.Putting.{front, front_none, field_room, end_room, put_nothing, put_field_more, put_line_feed}
+use Rattle.lines.proofs.Laws.Putting.{front_none, field_room, end_room, put_nothing, put_field_more, put_line_feed}
 use Rattle.lines.proofs.writing.write_fields.Goals as goal
 
 -- there is room for the line feed

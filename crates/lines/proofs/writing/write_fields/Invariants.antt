@@ -1,11 +1,9 @@
 -- What the loops of `write_fields` keep, and how they end.
-use borrow.Author.Rules.{rules}
-use native.Mathlib.Omega.{arith}
-use Prim.Native.Nat.{◌-◌, ◌<◌, ◌≤◌}
-use mathlib.Core.Path.{◌≡◌, refl, ◌∙◌}
-use lib.ListN.{length, length-set}
+use Prim.Native.Nat.{◌-◌, ◌≤◌}
+use mathlib.Core.Path.{◌≡◌}
+use lib.ListN.{length}
 use Rattle.lines.specs.Put.{Put}
-use Rattle.lines.proofs.Laws.Putting.{front, front_none, field_room, end_room, put_nothing, put_field_more, put_line_feed}
+use Rattle.lines.proofs.Laws.Putting.{front}
 use Rattle.lines.proofs.writing.write_fields.Given as goal
 
 -- Assumes nothing.

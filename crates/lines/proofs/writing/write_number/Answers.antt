@@ -1,5 +1,4 @@
 -- `write_number` meets its contract.
-use borrow.Author.Rules.{rules}
 use native.Mathlib.Omega.{arith}
 use mathlib.Core.Path.{ap, ◌∙◌}
 use lib.ListN.{length, length-set}

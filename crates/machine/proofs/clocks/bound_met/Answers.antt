@@ -1,13 +1,10 @@
 -- `bound_met` meets its contract.
-use lib.Dec.{leb}
 use Rattle.machine.specs.ByCell.{bound_met}
-use Rattle.model_table.specs.Parts.{bound_in}
-use Prim.Native.Nat.{ℕ, ◌+◌, ◌-◌, ◌≤◌, ◌<◌, ◌/◌, ◌%◌}
-use mathlib.Core.Path.{◌≡◌, refl, sym, ◌∙◌, ap}
+use Prim.Native.Nat.{ℕ}
+use mathlib.Core.Path.{◌∙◌, ap}
 use native.Mathlib.Omega.{arith}
 use Rattle.model_table.proofs.PartLaws.{bound_small}
 use Rattle.machine.proofs.ClockLaws.{bound_none, bound_here}
-use borrow.Author.Rules.{rules}
 use Rattle.machine.proofs.clocks.bound_met.Goals as goal
 
 -- src/clocks.rt:77:9

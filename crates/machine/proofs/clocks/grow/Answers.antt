@@ -2,12 +2,10 @@
 use Prim.Native.Nat.{suc}
 use mathlib.Core.List.{map}
 use lib.ListN.{take}
-use Prim.Native.Nat.{ℕ, ◌+◌, ◌-◌, ◌≤◌, ◌<◌, ◌/◌, ◌%◌}
-use mathlib.Core.Path.{◌≡◌, refl, sym, ◌∙◌, ap}
+use mathlib.Core.Path.{refl}
 use Rattle.machine.specs.ByCell.{grown_cell}
-use Rattle.machine.proofs.Arrays.{Filled, filled_start, filled_more, filled_end}
+use Rattle.machine.proofs.Arrays.{filled_start, filled_more, filled_end}
 use Rattle.machine.proofs.ClockLaws.{grown_is}
-use borrow.Author.Rules.{rules}
 use native.Mathlib.Omega.{arith}
 use Rattle.machine.proofs.clocks.grow.Goals as goal
 

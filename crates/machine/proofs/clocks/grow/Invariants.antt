@@ -1,14 +1,7 @@
 -- What the loops of `grow` keep, and how they end.
-use Prim.Native.Nat.{suc}
-use mathlib.Core.List.{map}
-use lib.ListN.{take}
-use Prim.Native.Nat.{ℕ, ◌+◌, ◌-◌, ◌≤◌, ◌<◌, ◌/◌, ◌%◌}
-use mathlib.Core.Path.{◌≡◌, refl, sym, ◌∙◌, ap}
+use Prim.Native.Nat.{◌-◌}
 use Rattle.machine.specs.ByCell.{grown_cell}
-use Rattle.machine.proofs.Arrays.{Filled, filled_start, filled_more, filled_end}
-use Rattle.machine.proofs.ClockLaws.{grown_is}
-use borrow.Author.Rules.{rules}
-use native.Mathlib.Omega.{arith}
+use Rattle.machine.proofs.Arrays.{Filled}
 use Rattle.machine.proofs.clocks.grow.Given as goal
 
 abbrev pub invariant-loop-k : goal.invariant-loop-k

@@ -1,10 +1,6 @@
 -- `grown` meets its contract.
-use lib.ListN.{get_or}
-use Prim.Native.Nat.{ℕ, ◌+◌, ◌-◌, ◌≤◌, ◌<◌, ◌/◌, ◌%◌}
-use mathlib.Core.Path.{◌≡◌, refl, sym, ◌∙◌, ap}
 use native.Mathlib.Omega.{arith}
 use Rattle.machine.proofs.ClockLaws.{grown_here, grown_none}
-use borrow.Author.Rules.{rules}
 use Rattle.machine.proofs.clocks.grown.Goals as goal
 
 -- src/clocks.rt:19:16

@@ -1,12 +1,11 @@
 -- `guard_holds` meets its contract.
 use mathlib.Core.Bool.{Bool}
-use Prim.Native.Nat.{ℕ, ◌+◌, ◌-◌, ◌≤◌, ◌<◌, ◌/◌, ◌%◌}
-use mathlib.Core.Path.{◌≡◌, refl, sym, ◌∙◌, ap}
+use Prim.Native.Nat.{ℕ, ◌/◌, ◌%◌}
+use mathlib.Core.Path.{sym, ◌∙◌}
 use Rattle.meaning.specs.Lists.{nth1D}
 use Rattle.model_table.specs.Parts.{bound_in}
 use Rattle.machine.specs.ByCell.{bound_met}
-use Rattle.machine.proofs.AllCells.{Passed, passed_start, passed_more, passed_stop, passed_end, every_collect}
-use borrow.Author.Rules.{rules}
+use Rattle.machine.proofs.AllCells.{passed_start, passed_more, passed_stop, passed_end, every_collect}
 use native.Mathlib.Omega.{arith}
 use Rattle.machine.proofs.clocks.guard_holds.Goals as goal
 

@@ -1,8 +1,7 @@
 -- `kept` meets its contract.
-use mathlib.Core.Path.{◌≡◌, sym, ◌∙◌, ap}
+use mathlib.Core.Path.{sym, ◌∙◌, ap}
 use mathlib.Core.Bool.{Bool}
 use Rattle.machine.specs.ByCell.{kept_cell}
-use borrow.Author.Rules.{rules}
 use Rattle.machine.proofs.clocks.kept.Goals as goal
 
 -- src/clocks.rt:109:1

@@ -1,11 +1,8 @@
 -- `limit_met` meets its contract.
-use Prim.Native.Nat.{ℕ, ◌+◌, ◌-◌, ◌≤◌, ◌<◌, ◌/◌, ◌%◌}
-use mathlib.Core.Path.{◌≡◌, refl, sym, ◌∙◌, ap}
-use native.Mathlib.Omega.{arith}
-use lib.Dec.{ltb}
+use Prim.Native.Nat.{ℕ}
+use mathlib.Core.Path.{◌∙◌, ap}
 use Rattle.machine.specs.ByCell.{limit_met}
 use Rattle.machine.proofs.ClockLaws.{limit_none, limit_here}
-use borrow.Author.Rules.{rules}
 use Rattle.machine.proofs.clocks.limit_met.Goals as goal
 
 -- src/clocks.rt:42:9

@@ -1,12 +1,11 @@
 -- `limits_met` meets its contract.
 use mathlib.Core.Bool.{Bool}
-use Prim.Native.Nat.{ℕ, ◌+◌, ◌-◌, ◌≤◌, ◌<◌, ◌/◌, ◌%◌}
-use mathlib.Core.Path.{◌≡◌, refl, sym, ◌∙◌, ap}
+use Prim.Native.Nat.{ℕ, ◌+◌}
+use mathlib.Core.Path.{◌≡◌, sym, ◌∙◌, ap}
 use lib.ListN.{get_or}
 use Rattle.model_table.specs.Parts.{limit_in}
 use Rattle.machine.specs.ByCell.{limit_met}
-use Rattle.machine.proofs.AllCells.{Passed, passed_start, passed_more, passed_stop, passed_end, every_collect}
-use borrow.Author.Rules.{rules}
+use Rattle.machine.proofs.AllCells.{passed_start, passed_more, passed_stop, passed_end, every_collect}
 use native.Mathlib.Omega.{arith}
 use Rattle.machine.proofs.clocks.limits_met.Goals as goal
 

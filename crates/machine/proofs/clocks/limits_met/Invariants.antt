@@ -1,13 +1,9 @@
 -- What the loops of `limits_met` keep, and how they end.
-use mathlib.Core.Bool.{Bool}
-use Prim.Native.Nat.{ℕ, ◌+◌, ◌-◌, ◌≤◌, ◌<◌, ◌/◌, ◌%◌}
-use mathlib.Core.Path.{◌≡◌, refl, sym, ◌∙◌, ap}
+use Prim.Native.Nat.{ℕ, ◌+◌, ◌-◌}
 use lib.ListN.{get_or}
 use Rattle.model_table.specs.Parts.{limit_in}
 use Rattle.machine.specs.ByCell.{limit_met}
-use Rattle.machine.proofs.AllCells.{Passed, passed_start, passed_more, passed_stop, passed_end, every_collect}
-use borrow.Author.Rules.{rules}
-use native.Mathlib.Omega.{arith}
+use Rattle.machine.proofs.AllCells.{Passed}
 use Rattle.machine.proofs.clocks.limits_met.Given as goal
 
 abbrev pub invariant-loop-k : goal.invariant-loop-k

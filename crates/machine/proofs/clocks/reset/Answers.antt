@@ -1,7 +1,5 @@
 -- `reset` meets its contract.
-use Prim.Native.Nat.{ℕ, ◌+◌, ◌-◌, ◌≤◌, ◌<◌, ◌/◌, ◌%◌}
-use mathlib.Core.Path.{◌≡◌, refl, sym, ◌∙◌, ap}
-use Rattle.machine.proofs.ClockLaws.{Reset, reset_start, reset_more, reset_end}
+use Rattle.machine.proofs.ClockLaws.{reset_start, reset_more, reset_end}
 use borrow.Author.Rules.{rules}
 use native.Mathlib.Omega.{arith}
 use Rattle.machine.proofs.clocks.reset.Goals as goal

@@ -1,9 +1,6 @@
 -- What the loops of `reset` keep, and how they end.
-use Prim.Native.Nat.{ℕ, ◌+◌, ◌-◌, ◌≤◌, ◌<◌, ◌/◌, ◌%◌}
-use mathlib.Core.Path.{◌≡◌, refl, sym, ◌∙◌, ap}
-use Rattle.machine.proofs.ClockLaws.{Reset, reset_start, reset_more, reset_end}
-use borrow.Author.Rules.{rules}
-use native.Mathlib.Omega.{arith}
+use Prim.Native.Nat.{◌-◌}
+use Rattle.machine.proofs.ClockLaws.{Reset}
 use Rattle.machine.proofs.clocks.reset.Given as goal
 
 abbrev pub invariant-loop-k : goal.invariant-loop-k

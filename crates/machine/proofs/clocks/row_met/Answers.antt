@@ -1,11 +1,10 @@
 -- `row_met` meets its contract.
-use Prim.Native.Nat.{ℕ, ◌≤◌, ◌/◌, ◌%◌}
-use mathlib.Core.Path.{◌≡◌, ◌∙◌, ap, ap₂}
+use Prim.Native.Nat.{◌/◌, ◌%◌}
+use mathlib.Core.Path.{◌∙◌, ap₂}
 use native.Mathlib.Omega.{arith}
 use Rattle.model_table.specs.Parts.{bound_in}
 use Rattle.machine.specs.ByCell.{bound_met}
 use Rattle.machine.proofs.ClockLaws.{value_small}
-use borrow.Author.Rules.{rules}
 use Rattle.machine.proofs.clocks.row_met.Goals as goal
 
 -- src/clocks.rt:89:5

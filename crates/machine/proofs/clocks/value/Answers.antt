@@ -1,9 +1,5 @@
 -- `value` meets its contract.
 use Rattle.machine.proofs.ClockLaws.{value_at}
-use Prim.Native.Nat.{ℕ, ◌+◌, ◌-◌, ◌≤◌, ◌<◌, ◌/◌, ◌%◌}
-use mathlib.Core.Path.{◌≡◌, refl, sym, ◌∙◌, ap}
-use native.Mathlib.Omega.{arith}
-use borrow.Author.Rules.{rules}
 use Rattle.machine.proofs.clocks.value.Goals as goal
 
 -- src/clocks.rt:63:1

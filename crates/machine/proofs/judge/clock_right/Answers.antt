@@ -1,10 +1,5 @@
 -- `clock_right` meets its contract.
 use Rattle.machine.proofs.CellTests.{clock_has, clock_lacks}
-use Prim.Native.Nat.{ℕ, suc, ◌+◌, ◌-◌, ◌≤◌, ◌<◌}
-use mathlib.Core.Path.{◌≡◌, refl, sym, ◌∙◌, ap, ap₂}
-use native.Mathlib.Omega.{arith}
-use borrow.Author.Tests.{lt-ltb, le-ltb, eq-eqb, ne_eqb}
-use borrow.Author.Rules.{rules}
 use Rattle.machine.proofs.judge.clock_right.Goals as goal
 
 -- src/judge.rt:19:9

@@ -1,9 +1,7 @@
 -- `clocks_right` meets its contract.
-use Prim.Native.Nat.{ℕ, suc, ◌+◌, ◌-◌, ◌≤◌, ◌<◌}
-use mathlib.Core.Path.{◌≡◌, refl, sym, ◌∙◌, ap, ap₂}
-use borrow.Author.Tests.{lt-ltb, le-ltb, eq-eqb, ne_eqb}
+use mathlib.Core.Path.{sym}
 use Rattle.machine.specs.ByCell.{clock_right}
-use Rattle.machine.proofs.AllCells.{Passed, passed_start, passed_more, passed_stop, passed_end}
+use Rattle.machine.proofs.AllCells.{passed_start, passed_more, passed_stop, passed_end}
 use borrow.Author.Rules.{rules}
 use native.Mathlib.Omega.{arith}
 use Rattle.machine.proofs.judge.clocks_right.Goals as goal

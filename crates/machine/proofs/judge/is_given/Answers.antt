@@ -1,6 +1,5 @@
 -- `is_given` meets its contract.
 use Rattle.machine.proofs.CellTests.{tells_by}
-use borrow.Author.Rules.{rules}
 use Rattle.machine.proofs.judge.is_given.Goals as goal
 
 -- src/judge.rt:120:1

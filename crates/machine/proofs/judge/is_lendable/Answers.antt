@@ -10,7 +10,6 @@ use Rattle.meaning.proofs.Tests.{never}
 use Rattle.machine.specs.ByCell.{all_to, clock_right}
 use Rattle.machine.proofs.LendLaws.{lendable_make, lent_high, lent_few, lent_clock_cells, lent_job_cells, lent_fit}
 use Rattle.machine.proofs.CellTests.{tells_by}
-use borrow.Author.Rules.{rules}
 use Rattle.machine.proofs.judge.is_lendable.Goals as goal
 
 -- src/judge.rt:99:9

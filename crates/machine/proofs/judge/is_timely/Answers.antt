@@ -1,10 +1,8 @@
 -- `is_timely` meets its contract.
-use Prim.Native.Nat.{ℕ, suc, ◌+◌, ◌-◌, ◌≤◌, ◌<◌}
-use mathlib.Core.Path.{◌≡◌, refl, sym, ◌∙◌, ap, ap₂}
+use mathlib.Core.Path.{◌∙◌, ap}
 use native.Mathlib.Omega.{arith}
 use lib.Dec.{ltb}
 use Rattle.machine.proofs.CellTests.{timely_work, timely_done}
-use borrow.Author.Rules.{rules}
 use Rattle.machine.proofs.judge.is_timely.Goals as goal
 
 -- src/judge.rt:44:9

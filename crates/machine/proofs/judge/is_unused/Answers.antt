@@ -1,6 +1,4 @@
 -- `is_unused` meets its contract.
-use Prim.Native.Nat.{ℕ, suc, ◌+◌, ◌-◌, ◌≤◌, ◌<◌}
-use mathlib.Core.Path.{◌≡◌, refl, sym, ◌∙◌, ap, ap₂}
 use native.Mathlib.Omega.{arith}
 use Rattle.machine.proofs.CellTests.{unused_age, unused_done, unused_task}
 use Rattle.machine.proofs.judge.is_unused.Goals as goal

@@ -1,8 +1,6 @@
 -- `is_usable` meets its contract.
-use mathlib.Core.Path.{◌≡◌, sym, ◌∙◌, ap}
 use Rattle.model_table.proofs.GivenLaws.{given_table}
 use Rattle.machine.proofs.CellTests.{tells_by, told_so, told_not}
-use borrow.Author.Rules.{rules}
 use Rattle.machine.proofs.judge.is_usable.Goals as goal
 
 -- src/judge.rt:131:9

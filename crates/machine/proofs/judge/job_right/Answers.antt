@@ -2,7 +2,6 @@
 use mathlib.Core.Path.{◌∙◌}
 use native.Mathlib.Omega.{arith}
 use Rattle.machine.proofs.CellTests.{job_there, job_behind}
-use borrow.Author.Rules.{rules}
 use Rattle.machine.proofs.judge.job_right.Goals as goal
 
 -- src/judge.rt:69:9

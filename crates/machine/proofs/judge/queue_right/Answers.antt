@@ -1,8 +1,7 @@
 -- `queue_right` meets its contract.
-use Prim.Native.Nat.{◌-◌}
 use mathlib.Core.Path.{sym}
 use Rattle.machine.specs.ByCell.{job_right}
-use Rattle.machine.proofs.AllCells.{Passed, passed_start, passed_more, passed_stop, passed_end}
+use Rattle.machine.proofs.AllCells.{passed_start, passed_more, passed_stop, passed_end}
 use borrow.Author.Rules.{rules}
 use native.Mathlib.Omega.{arith}
 use Rattle.machine.proofs.judge.queue_right.Goals as goal

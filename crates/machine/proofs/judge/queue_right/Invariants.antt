@@ -1,10 +1,7 @@
 -- What the loops of `queue_right` keep, and how they end.
 use Prim.Native.Nat.{◌-◌}
-use mathlib.Core.Path.{sym}
 use Rattle.machine.specs.ByCell.{job_right}
-use Rattle.machine.proofs.AllCells.{Passed, passed_start, passed_more, passed_stop, passed_end}
-use borrow.Author.Rules.{rules}
-use native.Mathlib.Omega.{arith}
+use Rattle.machine.proofs.AllCells.{Passed}
 use Rattle.machine.proofs.judge.queue_right.Given as goal
 
 abbrev pub invariant-loop-k : goal.invariant-loop-k

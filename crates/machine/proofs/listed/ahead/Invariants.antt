@@ -1,12 +1,9 @@
 -- What the loops of `ahead` keep, and how they end.
 use Prim.Native.Nat.{◌-◌}
-use mathlib.Core.Path.{◌≡◌, ◌∙◌}
+use mathlib.Core.Path.{◌≡◌}
 use mathlib.Core.Bool.{Bool, false}
 use lib.ListN.{length, take}
-use lib.Seq.{get_or-take, length-take-le}
-use Rattle.machine.proofs.Searches.{Sought, sought_start, sought_more, sought_at, sought_last}
-use borrow.Author.Rules.{rules}
-use native.Mathlib.Omega.{arith}
+use Rattle.machine.proofs.Searches.{Sought}
 use Rattle.machine.proofs.listed.ahead.Given as goal
 
 -- Assumes nothing.

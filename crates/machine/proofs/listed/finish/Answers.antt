@@ -3,7 +3,6 @@ use mathlib.Core.Path.{refl, sym, ◌∙◌}
 use Rattle.meaning.proofs.Tests.{never}
 use Rattle.model_table.proofs.GivenLaws.{given_table}
 use Rattle.machine.proofs.CellTests.{told_so, told_not}
-use borrow.Author.Rules.{rules}
 use Rattle.machine.proofs.listed.finish.Goals as goal
 
 -- src/listed.rt:139:16

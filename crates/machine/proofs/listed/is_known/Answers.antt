@@ -1,8 +1,6 @@
 -- `is_known` meets its contract.
-use mathlib.Core.Path.{◌≡◌, sym, ◌∙◌, ap}
 use Rattle.machine.proofs.CellTests.{tells_by, told_so, told_not}
 use native.Mathlib.Omega.{arith}
-use borrow.Author.Rules.{rules}
 use Rattle.machine.proofs.listed.is_known.Goals as goal
 
 -- src/listed.rt:107:1

@@ -1,7 +1,6 @@
 -- `machine::listed::look` meets its contract.
 use mathlib.Core.Path.{sym, ◌∙◌}
 use Rattle.machine.proofs.SeenLaws.{look_bad, look_many, look_late, look_on}
-use borrow.Author.Rules.{rules}
 use Rattle.machine.proofs.listed.look.Goals as goal
 
 -- src/listed.rt:76:17

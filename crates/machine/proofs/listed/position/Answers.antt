@@ -8,7 +8,6 @@ use Rattle.meaning.specs.Machine.Place.{place_from}
 use Rattle.meaning.specs.Text.ModelTable.{decode}
 use Rattle.meaning.proofs.Hooks.{behind_le}
 use Rattle.machine.proofs.PlaceLaws.{said_over, said_at}
-use borrow.Author.Rules.{rules}
 use Rattle.machine.proofs.listed.position.Goals as goal
 
 -- src/listed.rt:124:9

@@ -1,7 +1,6 @@
 -- `machine::listed::take_in` meets its contract.
 use mathlib.Core.Path.{refl}
 use Rattle.machine.proofs.SeenLaws.{next_is}
-use borrow.Author.Rules.{rules}
 use Rattle.machine.proofs.listed.take_in.Goals as goal
 
 -- src/listed.rt:54:1

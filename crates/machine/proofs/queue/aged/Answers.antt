@@ -1,9 +1,6 @@
 -- `aged` meets its contract.
-use Prim.Native.Nat.{ℕ, suc, ◌+◌, ◌-◌, ◌≤◌, ◌<◌}
-use mathlib.Core.Path.{◌≡◌, refl, sym, ◌∙◌, ap, ap₂}
 use native.Mathlib.Omega.{arith}
 use Rattle.machine.proofs.QueueLaws.{aged_none, aged_works, aged_rests}
-use borrow.Author.Rules.{rules}
 use Rattle.machine.proofs.queue.aged.Goals as goal
 
 -- src/queue.rt:24:9

@@ -1,8 +1,7 @@
 -- `beats` meets its contract.
-use mathlib.Core.Path.{◌≡◌, sym, ◌∙◌, ap₂}
+use mathlib.Core.Path.{sym, ◌∙◌, ap₂}
 use lib.Dec.{ltb}
 use Rattle.machine.proofs.JobLaws.{beats_ranks, beats_sooner, beats_shorter}
-use borrow.Author.Rules.{rules}
 use Rattle.machine.proofs.queue.beats.Goals as goal
 
 -- src/queue.rt:157:9

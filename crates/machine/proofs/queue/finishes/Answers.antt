@@ -1,6 +1,6 @@
 -- `finishes` meets its contract.
-use Prim.Native.Nat.{ℕ, suc, ◌+◌, ◌-◌, ◌≤◌, ◌<◌}
-use mathlib.Core.Path.{◌≡◌, refl, sym, ◌∙◌, ap, ap₂}
+use Prim.Native.Nat.{suc}
+use mathlib.Core.Path.{sym, ◌∙◌, ap, ap₂}
 use native.Mathlib.Omega.{arith}
 use lib.Dec.{leb}
 use lib.ListN.{get_or}
@@ -12,7 +12,6 @@ use Rattle.model_table.proofs.PartLaws.{work_is}
 use Rattle.machine.specs.Stands.{queue_of, no_job}
 use Rattle.machine.proofs.QueueLaws.{none_there, queue_length, queue_at}
 use Rattle.machine.proofs.JobLaws.{finishes_empty, finishes_head}
-use borrow.Author.Rules.{rules}
 use Rattle.machine.proofs.queue.finishes.Goals as goal
 
 -- src/queue.rt:93:9

@@ -1,13 +1,12 @@
 -- `first_late` meets its contract.
 use mathlib.Core.Path.{◌≡◌, sym, ◌∙◌, ap}
-use Prim.Native.Nat.{suc, ◌+◌, ◌-◌}
+use Prim.Native.Nat.{suc, ◌+◌}
 use mathlib.Core.Path.{◌≡◌, sym, ◌∙◌, ap}
 use Rattle.meaning.specs.Text.ModelTable.{decode}
 use Rattle.machine.specs.Stands.{queue_of}
-use Rattle.machine.proofs.Searches.{Sought, sought_start, sought_more, first_met, first_no}
+use Rattle.machine.proofs.Searches.{sought_start, sought_more, first_met, first_no}
 use Rattle.machine.proofs.QueueLaws.{none_there, queue_length, queue_at}
 use Rattle.meaning.specs.Machine.Tick.{is_late}
-use borrow.Author.Rules.{rules}
 use native.Mathlib.Omega.{arith}
 use Rattle.machine.proofs.queue.first_late.Goals as goal
 

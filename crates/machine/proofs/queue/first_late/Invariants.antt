@@ -1,14 +1,10 @@
 -- What the loops of `first_late` keep, and how they end.
-use mathlib.Core.Path.{◌≡◌, sym, ◌∙◌, ap}
-use Prim.Native.Nat.{suc, ◌+◌, ◌-◌}
-use mathlib.Core.Path.{◌≡◌, sym, ◌∙◌, ap}
+use Prim.Native.Nat.{◌-◌}
 use Rattle.meaning.specs.Text.ModelTable.{decode}
 use Rattle.machine.specs.Stands.{queue_of}
-use Rattle.machine.proofs.Searches.{Sought, sought_start, sought_more, first_met, first_no}
-use Rattle.machine.proofs.QueueLaws.{none_there, queue_length, queue_at}
+use Rattle.machine.proofs.Searches.{Sought}
+use Rattle.machine.proofs.QueueLaws.{none_there}
 use Rattle.meaning.specs.Machine.Tick.{is_late}
-use borrow.Author.Rules.{rules}
-use native.Mathlib.Omega.{arith}
 use Rattle.machine.proofs.queue.first_late.Given as goal
 
 abbrev pub invariant-loop-k : goal.invariant-loop-k

@@ -1,13 +1,11 @@
 -- `insert` meets its contract.
-use Prim.Native.Nat.{ℕ, suc, ◌+◌, ◌-◌, ◌≤◌, ◌<◌}
-use mathlib.Core.Path.{◌≡◌, refl, sym, ◌∙◌, ap}
+use mathlib.Core.Path.{refl}
 use mathlib.Core.List.{map}
 use Rattle.machine.specs.Stands.{job_of, cell_of, queue_of, no_job}
-use Rattle.machine.proofs.Arrays.{Filled, filled_start, filled_more, filled_end}
+use Rattle.machine.proofs.Arrays.{filled_start, filled_more, filled_end}
 use Rattle.meaning.specs.Lists.{insert_at}
 use Rattle.machine.specs.ByCell.{insert_cell}
 use Rattle.machine.proofs.QueueLaws.{insert_cells}
-use borrow.Author.Rules.{rules}
 use native.Mathlib.Omega.{arith}
 use Rattle.machine.proofs.queue.insert.Goals as goal
 

@@ -1,10 +1,9 @@
 -- `is_shorter` meets its contract.
 use Prim.Native.Nat.{ℕ, ◌-◌}
-use mathlib.Core.Path.{◌≡◌, sym, ◌∙◌, ap, ap₂}
+use mathlib.Core.Path.{◌∙◌, ap, ap₂}
 use native.Mathlib.Omega.{arith}
 use lib.Dec.{ltb}
 use Rattle.machine.proofs.JobLaws.{shorter_over, shorter_owed}
-use borrow.Author.Rules.{rules}
 use Rattle.machine.proofs.queue.is_shorter.Goals as goal
 
 -- src/queue.rt:146:9

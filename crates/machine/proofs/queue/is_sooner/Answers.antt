@@ -1,10 +1,9 @@
 -- `is_sooner` meets its contract.
 use Prim.Native.Nat.{ℕ, ◌-◌}
-use mathlib.Core.Path.{◌≡◌, sym, ◌∙◌, ap, ap₂}
+use mathlib.Core.Path.{◌∙◌, ap, ap₂}
 use native.Mathlib.Omega.{arith}
 use lib.Dec.{ltb}
 use Rattle.machine.proofs.JobLaws.{sooner_older, sooner_tie, sooner_left}
-use borrow.Author.Rules.{rules}
 use Rattle.machine.proofs.queue.is_sooner.Goals as goal
 
 -- src/queue.rt:129:9

@@ -1,12 +1,10 @@
 -- `job_after` meets its contract.
-use Prim.Native.Nat.{ℕ, suc, ◌+◌, ◌-◌, ◌≤◌, ◌<◌}
-use mathlib.Core.Path.{◌≡◌, refl, sym, ◌∙◌, ap, ap₂}
-use native.Mathlib.Omega.{arith}
+use Prim.Native.Nat.{◌+◌}
+use mathlib.Core.Path.{sym, ◌∙◌, ap}
 use mathlib.Core.Bool.{Bool, false}
 use lib.Dec.{eqb}
 use Rattle.meaning.specs.Text.Choice.{pick}
 use Rattle.machine.specs.ByCell.{aged_cell}
-use borrow.Author.Rules.{rules}
 use Rattle.machine.proofs.queue.job_after.Goals as goal
 
 -- src/queue.rt:51:9

@@ -1,9 +1,5 @@
 -- `job_with` meets its contract.
-use Prim.Native.Nat.{ℕ, suc, ◌+◌, ◌-◌, ◌≤◌, ◌<◌}
-use mathlib.Core.Path.{◌≡◌, refl, sym, ◌∙◌, ap, ap₂}
-use native.Mathlib.Omega.{arith}
 use Rattle.machine.proofs.QueueLaws.{insert_ahead, insert_new, insert_none, insert_moved}
-use borrow.Author.Rules.{rules}
 use Rattle.machine.proofs.queue.job_with.Goals as goal
 
 -- src/queue.rt:163:9

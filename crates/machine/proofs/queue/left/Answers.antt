@@ -1,10 +1,8 @@
 -- `left` meets its contract.
-use Prim.Native.Nat.{ℕ, suc, ◌+◌, ◌-◌, ◌≤◌, ◌<◌}
-use mathlib.Core.Path.{◌≡◌, refl, sym, ◌∙◌, ap, ap₂}
+use Prim.Native.Nat.{◌-◌}
+use mathlib.Core.Path.{◌≡◌, sym, ◌∙◌, ap}
 use native.Mathlib.Omega.{arith}
-use mathlib.Core.Bool.{Bool}
 use Rattle.machine.specs.ByCell.{left_of}
-use borrow.Author.Rules.{rules}
 use Rattle.machine.proofs.queue.left.Goals as goal
 
 -- src/queue.rt:80:13

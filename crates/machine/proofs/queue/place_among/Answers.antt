@@ -1,5 +1,4 @@
 -- `machine::queue::place_among` meets its contract.
-use Prim.Native.Nat.{◌-◌}
 use mathlib.Core.Path.{◌≡◌, sym, ◌∙◌, ap, subst}
 use lib.ListN.{take}
 use Rattle.meaning.specs.Machine.Place.{beats, behind}
@@ -9,7 +8,6 @@ use Rattle.machine.specs.Stands.{queue_of}
 use Rattle.machine.proofs.Searches.{Sought, sought_start, sought_more, sought_at, sought_last}
 use Rattle.machine.proofs.QueueLaws.{none_there, queue_length, queue_at, order_is, behind_queue}
 use Rattle.machine.proofs.JobLaws.{beats_in_lem}
-use borrow.Author.Rules.{rules}
 use native.Mathlib.Omega.{arith}
 use Rattle.machine.proofs.queue.place_among.Goals as goal
 

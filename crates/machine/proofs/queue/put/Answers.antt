@@ -8,7 +8,6 @@ use Rattle.meaning.specs.Text.ModelTable.{decode}
 use Rattle.meaning.proofs.Machine.Place.{place_of_high}
 use Rattle.machine.specs.Stands.{queue_of, cells_of}
 use Rattle.machine.proofs.QueueLaws.{queue_length}
-use borrow.Author.Rules.{rules}
 use Rattle.machine.proofs.queue.put.Goals as goal
 
 -- src/queue.rt:242:5

@@ -1,12 +1,12 @@
 -- `machine::queue::put_all` meets its contract.
-use Prim.Native.Nat.{ℕ, ◌-◌, ◌≤◌}
+use Prim.Native.Nat.{ℕ}
 use mathlib.Core.Path.{◌≡◌, sym, ◌∙◌, ap}
-use lib.ListN.{length, take}
+use lib.ListN.{take}
 use Rattle.meaning.specs.Machine.Release.{put_all}
 use Rattle.meaning.specs.Text.ModelTable.{decode}
 use Rattle.machine.specs.Stands.{queue_of, cells_of}
 use Rattle.machine.proofs.QueueLaws.{queue_length}
-use Rattle.machine.proofs.ReleaseLaws.{PutUpto, put_more}
+use Rattle.machine.proofs.ReleaseLaws.{put_more}
 use borrow.Author.Rules.{rules}
 use native.Mathlib.Omega.{arith}
 use Rattle.machine.proofs.queue.put_all.Goals as goal

@@ -1,14 +1,10 @@
 -- What the loops of `put_all` keep, and how they end.
-use Prim.Native.Nat.{ℕ, ◌-◌, ◌≤◌}
-use mathlib.Core.Path.{◌≡◌, sym, ◌∙◌, ap}
-use lib.ListN.{length, take}
-use Rattle.meaning.specs.Machine.Release.{put_all}
+use Prim.Native.Nat.{◌-◌, ◌≤◌}
+use mathlib.Core.Path.{◌≡◌}
+use lib.ListN.{length}
 use Rattle.meaning.specs.Text.ModelTable.{decode}
-use Rattle.machine.specs.Stands.{queue_of, cells_of}
-use Rattle.machine.proofs.QueueLaws.{queue_length}
-use Rattle.machine.proofs.ReleaseLaws.{PutUpto, put_more}
-use borrow.Author.Rules.{rules}
-use native.Mathlib.Omega.{arith}
+use Rattle.machine.specs.Stands.{queue_of}
+use Rattle.machine.proofs.ReleaseLaws.{PutUpto}
 use Rattle.machine.proofs.queue.put_all.Given as goal
 
 -- Assumes nothing.

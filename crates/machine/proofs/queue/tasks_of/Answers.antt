@@ -1,9 +1,6 @@
 -- `machine::queue::tasks_of` meets its contract.
-use Prim.Native.Nat.{ℕ, ◌-◌}
-use mathlib.Core.Path.{◌≡◌, refl}
-use lib.ListN.{length, get_or}
-use Rattle.machine.specs.Stands.{no_job}
-use Rattle.machine.proofs.Arrays.{Filled, filled_start, filled_more}
+use mathlib.Core.Path.{refl}
+use Rattle.machine.proofs.Arrays.{filled_start, filled_more}
 use Rattle.machine.proofs.QueueLaws.{tasks_filled}
 use borrow.Author.Rules.{rules}
 use native.Mathlib.Omega.{arith}

@@ -1,12 +1,9 @@
 -- What the loops of `tasks_of` keep, and how they end.
 use Prim.Native.Nat.{ℕ, ◌-◌}
-use mathlib.Core.Path.{◌≡◌, refl}
+use mathlib.Core.Path.{◌≡◌}
 use lib.ListN.{length, get_or}
 use Rattle.machine.specs.Stands.{no_job}
-use Rattle.machine.proofs.Arrays.{Filled, filled_start, filled_more}
-use Rattle.machine.proofs.QueueLaws.{tasks_filled}
-use borrow.Author.Rules.{rules}
-use native.Mathlib.Omega.{arith}
+use Rattle.machine.proofs.Arrays.{Filled}
 use Rattle.machine.proofs.queue.tasks_of.Given as goal
 
 -- Assumes nothing.

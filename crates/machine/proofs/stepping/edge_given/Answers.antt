@@ -1,7 +1,6 @@
 -- `machine::stepping::edge_given` meets its contract.
 use mathlib.Core.Path.{sym, ◌∙◌}
 use Rattle.machine.proofs.StepLaws.{edge_elsewhere, edge_guarded, edge_moved}
-use borrow.Author.Rules.{rules}
 use Rattle.machine.proofs.stepping.edge_given.Goals as goal
 
 -- src/stepping.rt:153:13

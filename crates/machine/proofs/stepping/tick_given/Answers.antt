@@ -1,14 +1,12 @@
 -- `tick_given` meets its contract.
-use Prim.Native.Nat.{ℕ, suc, ◌+◌, ◌-◌, ◌≤◌, ◌<◌}
-use mathlib.Core.Path.{◌≡◌, refl, sym, ◌∙◌, ap, ap₂, subst}
+use Prim.Native.Nat.{ℕ, suc}
+use mathlib.Core.Path.{◌≡◌, sym, ◌∙◌, ap}
 use mathlib.Core.List.{List, map}
 use native.Mathlib.Omega.{arith}
 use Rattle.meaning.specs.Text.ModelTable.{decode}
-use Rattle.model_table.proofs.PartLaws.{work_small, deadline_small}
-use Rattle.machine.proofs.LendLaws.{lent_young, lent_few, lent_small, lent_jobs, lent_count}
+use Rattle.machine.proofs.LendLaws.{lent_small}
 use lib.ListN.{take, get_or}
 use lib.Dec.{leb}
-use mathlib.Core.Bool.{Bool}
 use Rattle.meaning.specs.Lists.{every}
 use Rattle.meaning.specs.Machine.Tick.{limit_test}
 use Rattle.model_table.specs.Parts.{limits_of}
@@ -16,7 +14,6 @@ use Rattle.model_table.proofs.PartLaws.{clocks_is}
 use Rattle.machine.specs.Stands.{clock_most, padded}
 use Rattle.machine.specs.ByCell.{all_to}
 use Rattle.machine.proofs.StepLaws.{tick_allowed, tick_within, tick_answered, tick_ended, tick_broken}
-use borrow.Author.Rules.{rules}
 use Rattle.machine.proofs.stepping.tick_given.Goals as goal
 
 -- src/stepping.rt:91:9

@@ -1,15 +1,12 @@
 -- `ticked` meets its contract.
-use Prim.Native.Nat.{ℕ, suc, ◌+◌, ◌-◌, ◌≤◌, ◌<◌}
-use mathlib.Core.Path.{◌≡◌, refl, sym, ◌∙◌, ap, ap₂, subst}
-use mathlib.Core.List.{List, map}
+use Prim.Native.Nat.{ℕ}
+use mathlib.Core.Path.{sym, ◌∙◌, ap, ap₂}
 use native.Mathlib.Omega.{arith}
-use Rattle.meaning.specs.Text.ModelTable.{decode}
 use Rattle.model_table.proofs.PartLaws.{work_small, deadline_small}
-use Rattle.machine.proofs.LendLaws.{lent_young, lent_few, lent_small, lent_jobs, lent_count}
+use Rattle.machine.proofs.LendLaws.{lent_young, lent_few}
 use Rattle.machine.specs.Promise.{went, missed}
 use Rattle.machine.specs.declared.State.{State}
 use Rattle.machine.proofs.StepLaws.{left_few, ticked_late, ticked_state, told_went, told_missed}
-use borrow.Author.Rules.{rules}
 use Rattle.machine.proofs.stepping.ticked.Goals as goal
 
 -- src/stepping.rt:63:9

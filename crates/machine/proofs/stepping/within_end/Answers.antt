@@ -1,13 +1,12 @@
 -- `within_end` meets its contract.
-use Prim.Native.Nat.{ℕ, suc, ◌+◌, ◌-◌, ◌≤◌, ◌<◌}
-use mathlib.Core.Path.{◌≡◌, refl, sym, ◌∙◌, ap, ap₂, subst}
+use Prim.Native.Nat.{ℕ}
+use mathlib.Core.Path.{refl, sym}
 use mathlib.Core.Bool.{Bool}
 use lib.Dec.{leb}
 use lib.ListN.{get_or}
 use borrow.Author.Tests.{le-leb, lt-leb}
 use Rattle.machine.specs.Stands.{clock_most}
-use Rattle.machine.proofs.AllCells.{Passed, passed_start, passed_more, passed_stop, passed_end}
-use borrow.Author.Rules.{rules}
+use Rattle.machine.proofs.AllCells.{passed_start, passed_more, passed_stop, passed_end}
 use native.Mathlib.Omega.{arith}
 use Rattle.machine.proofs.stepping.within_end.Goals as goal
 

@@ -1,14 +1,9 @@
 -- What the loops of `within_end` keep, and how they end.
-use Prim.Native.Nat.{ℕ, suc, ◌+◌, ◌-◌, ◌≤◌, ◌<◌}
-use mathlib.Core.Path.{◌≡◌, refl, sym, ◌∙◌, ap, ap₂, subst}
-use mathlib.Core.Bool.{Bool}
+use Prim.Native.Nat.{ℕ, ◌-◌}
 use lib.Dec.{leb}
 use lib.ListN.{get_or}
-use borrow.Author.Tests.{le-leb, lt-leb}
 use Rattle.machine.specs.Stands.{clock_most}
-use Rattle.machine.proofs.AllCells.{Passed, passed_start, passed_more, passed_stop, passed_end}
-use borrow.Author.Rules.{rules}
-use native.Mathlib.Omega.{arith}
+use Rattle.machine.proofs.AllCells.{Passed}
 use Rattle.machine.proofs.stepping.within_end.Given as goal
 
 abbrev pub invariant-loop-k : goal.invariant-loop-k

@@ -1,7 +1,6 @@
 -- `cell` meets its contract.
 use mathlib.Core.Path.{sym}
 use lib.ListN.{get_or-eq_default}
-use borrow.Author.Rules.{rules}
 use Rattle.model_table.proofs.cells.cell.Goals as goal
 
 -- src/cells.rt:8:1

@@ -1,8 +1,7 @@
 -- `of_edge` meets its contract.
 use Rattle.model_table.proofs.CellLaws.{edge_zero, edge_out, edge_in}
-use mathlib.Core.Path.{◌≡◌, refl, sym, ◌∙◌, ap}
+use mathlib.Core.Path.{sym, ◌∙◌}
 use native.Mathlib.Omega.{arith}
-use borrow.Author.Rules.{rules}
 use Rattle.model_table.proofs.cells.of_edge.Goals as goal
 
 -- src/cells.rt:55:9

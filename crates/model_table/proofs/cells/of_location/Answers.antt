@@ -1,8 +1,7 @@
 -- `of_location` meets its contract.
 use Rattle.model_table.proofs.CellLaws.{location_zero, location_out, location_in}
-use mathlib.Core.Path.{◌≡◌, refl, sym, ◌∙◌, ap}
+use mathlib.Core.Path.{sym, ◌∙◌}
 use native.Mathlib.Omega.{arith}
-use borrow.Author.Rules.{rules}
 use Rattle.model_table.proofs.cells.of_location.Goals as goal
 
 -- src/cells.rt:41:9

@@ -1,8 +1,7 @@
 -- `of_task` meets its contract.
 use Rattle.model_table.proofs.CellLaws.{task_zero, task_out, task_in}
-use mathlib.Core.Path.{◌≡◌, refl, sym, ◌∙◌, ap}
+use mathlib.Core.Path.{sym, ◌∙◌}
 use native.Mathlib.Omega.{arith}
-use borrow.Author.Rules.{rules}
 use Rattle.model_table.proofs.cells.of_task.Goals as goal
 
 -- src/cells.rt:27:9

@@ -1,11 +1,7 @@
 -- What the loops of `count_from` keep, and how they end.
-use Prim.Native.Nat.{ℕ, ◌+◌, ◌-◌, ◌*◌, ◌≤◌}
-use mathlib.Core.Path.{◌≡◌, refl, sym, ap, ◌∙◌}
-use Rattle.meaning.specs.Text.Choice.{pick}
-use Rattle.meaning.specs.Text.ModelTable.{count, there}
-use Rattle.model_table.proofs.CountLaws.{count_step, count_none}
-use borrow.Author.Rules.{rules}
-use native.Mathlib.Omega.{arith}
+use Prim.Native.Nat.{◌+◌, ◌-◌, ◌*◌, ◌≤◌}
+use mathlib.Core.Path.{◌≡◌}
+use Rattle.meaning.specs.Text.ModelTable.{count}
 use Rattle.model_table.proofs.counts.count_from.Given as goal
 
 abbrev pub invariant-loop-k : goal.invariant-loop-k

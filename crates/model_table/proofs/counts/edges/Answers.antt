@@ -1,7 +1,6 @@
 -- `edges` meets its contract.
 use mathlib.Core.Path.{◌∙◌}
 use Rattle.model_table.proofs.CountLaws.{edges_count}
-use borrow.Author.Rules.{rules}
 use Rattle.model_table.proofs.counts.edges.Goals as goal
 
 -- src/counts.rt:47:1

@@ -1,7 +1,6 @@
 -- `locations` meets its contract.
 use mathlib.Core.Path.{◌∙◌}
 use Rattle.model_table.proofs.CountLaws.{locations_count}
-use borrow.Author.Rules.{rules}
 use Rattle.model_table.proofs.counts.locations.Goals as goal
 
 -- src/counts.rt:40:1

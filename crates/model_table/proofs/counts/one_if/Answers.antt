@@ -2,7 +2,6 @@
 use lib.ListN.{get_or}
 use Rattle.model_table.proofs.CountLaws.{one_there, one_not}
 use native.Mathlib.Omega.{arith}
-use borrow.Author.Rules.{rules}
 use Rattle.model_table.proofs.counts.one_if.Goals as goal
 
 -- src/counts.rt:10:1

@@ -1,7 +1,6 @@
 -- `tasks` meets its contract.
 use mathlib.Core.Path.{◌∙◌}
 use Rattle.model_table.proofs.CountLaws.{tasks_count}
-use borrow.Author.Rules.{rules}
 use Rattle.model_table.proofs.counts.tasks.Goals as goal
 
 -- src/counts.rt:33:1

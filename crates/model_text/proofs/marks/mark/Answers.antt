@@ -1,5 +1,4 @@
 -- `mark` meets its contract.
-use borrow.Author.Rules.{rules}
 use native.Mathlib.Omega.{arith}
 use mathlib.Core.Path.{refl, sym}
 use Rattle.model_text.proofs.marks.mark.Goals as goal

@@ -1,10 +1,8 @@
 -- What the loops of `clear` keep, and how they end.
-use borrow.Author.Rules.{rules}
-use native.Mathlib.Omega.{arith}
-use Prim.Native.Nat.{◌≤◌, ◌<◌, ◌-◌}
-use mathlib.Core.Path.{◌≡◌, refl, ◌∙◌}
-use lib.ListN.{length, length-set}
-use Rattle.model_text.proofs.Laws.Clearing.{cleared, cleared_step, cleared_all, cleared_none}
+use Prim.Native.Nat.{◌≤◌, ◌-◌}
+use mathlib.Core.Path.{◌≡◌}
+use lib.ListN.{length}
+use Rattle.model_text.proofs.Laws.Clearing.{cleared}
 use Rattle.model_text.proofs.reading.clear.Given as goal
 
 -- Assumes nothing.

@@ -1,13 +1,12 @@
 -- `read_records` meets its contract.
-use borrow.Author.Rules.{rules}
 use native.Mathlib.Omega.{arith}
-use Prim.Native.Nat.{ℕ, suc, ◌-◌}
+use Prim.Native.Nat.{ℕ, suc}
 use mathlib.Core.Path.{sym, ap, ◌∙◌}
-use lib.ListN.{length, replicate}
+use lib.ListN.{replicate}
 use Rattle.meaning.specs.Text.Records.{done}
 use Rattle.meaning.specs.Text.ModelTable.{size}
 use Rattle.meaning.specs.Text.ModelReader.{look}
-use Rattle.meaning.proofs.Text.ModelLoop.{Reading, rec_next, reading_more, reading_end, reading_fault}
+use Rattle.meaning.proofs.Text.ModelLoop.{rec_next, reading_more, reading_end, reading_fault}
 use Rattle.model_text.proofs.Laws.Answering.{reading_start, reading_as, stepped_next, stepped_end, stepped_fault, answered_done, answered_refused}
 use Rattle.model_text.proofs.reading.read_records.Goals as goal
 

@@ -1,14 +1,7 @@
 -- What the loops of `read_records` keep, and how they end.
-use borrow.Author.Rules.{rules}
-use native.Mathlib.Omega.{arith}
-use Prim.Native.Nat.{ℕ, suc, ◌-◌}
-use mathlib.Core.Path.{sym, ap, ◌∙◌}
-use lib.ListN.{length, replicate}
-use Rattle.meaning.specs.Text.Records.{done}
-use Rattle.meaning.specs.Text.ModelTable.{size}
-use Rattle.meaning.specs.Text.ModelReader.{look}
-use Rattle.meaning.proofs.Text.ModelLoop.{Reading, rec_next, reading_more, reading_end, reading_fault}
-use Rattle.model_text.proofs.Laws.Answering.{reading_start, reading_as, stepped_next, stepped_end, stepped_fault, answered_done, answered_refused}
+use Prim.Native.Nat.{◌-◌}
+use lib.ListN.{length}
+use Rattle.meaning.proofs.Text.ModelLoop.{Reading}
 use Rattle.model_text.proofs.reading.read_records.Given as goal
 
 -- Assumes nothing.

@@ -1,5 +1,4 @@
 -- `enter` meets its contract.
-use borrow.Author.Rules.{rules}
 use mathlib.Core.Path.{refl, ap}
 use native.Mathlib.Numerals.{add-one}
 use Rattle.model_text.specs.Numbered.{mark_no}

@@ -1,13 +1,10 @@
 -- What the loops of `store` keep, and how they end.
-use borrow.Author.Rules.{rules}
-use native.Mathlib.Omega.{arith}
-use Prim.Native.Nat.{ℕ, suc, ◌+◌, ◌-◌, ◌≤◌}
-use mathlib.Core.Path.{◌≡◌, refl, ap, ◌∙◌}
+use Prim.Native.Nat.{suc, ◌+◌, ◌-◌, ◌≤◌}
+use mathlib.Core.Path.{◌≡◌}
 use mathlib.Core.List.{map}
-use lib.ListN.{length, length-set}
+use lib.ListN.{length}
 use lib.Seq.{sets}
 use Rattle.lines.specs.Put.{firsts}
-use Rattle.model_text.proofs.Laws.Storing.{store_none, store_more}
 use Rattle.model_text.proofs.records.store.Given as goal
 
 -- Assumes nothing.

@@ -1,5 +1,4 @@
 -- `due` meets its contract.
-use borrow.Author.Rules.{rules}
 use borrow.Author.Tests.{ne_eqb}
 use Rattle.meaning.specs.Text.ModelReader.{rule}
 use Rattle.model_text.specs.Numbered.{mark_no}

@@ -1,5 +1,4 @@
 -- `latest` meets its contract.
-use borrow.Author.Rules.{rules}
 use Prim.Native.Nat.{ℕ, ◌+◌}
 use mathlib.Core.Path.{ap}
 use borrow.Author.Tests.{ne_eqb}

@@ -1,5 +1,4 @@
 -- `misfit` meets its contract.
-use borrow.Author.Rules.{rules}
 use borrow.Author.Tests.{eq-eqb, ne_eqb}
 use Rattle.meaning.specs.Text.ModelReader.{misfit}
 use Rattle.model_text.proofs.rules.misfit.Goals as goal

@@ -1,5 +1,4 @@
 -- `ranges_of` meets its contract.
-use borrow.Author.Rules.{rules}
 use mathlib.Core.Path.{sym, subst}
 use mathlib.Core.List.{List}
 use Rattle.meaning.specs.Text.Lines.{Range}

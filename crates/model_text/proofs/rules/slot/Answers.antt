@@ -1,5 +1,4 @@
 -- `slot` meets its contract.
-use borrow.Author.Rules.{rules}
 use native.Mathlib.Omega.{arith}
 use mathlib.Core.Path.{sym}
 use Rattle.meaning.specs.Text.ModelReader.{rule}

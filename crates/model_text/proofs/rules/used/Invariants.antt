@@ -1,14 +1,8 @@
 -- What the loops of `used` keep, and how they end.
-use borrow.Author.Rules.{rules}
-use native.Mathlib.Omega.{arith}
-use Prim.Native.Nat.{◌+◌, ◌*◌, ◌≤◌, ◌-◌}
-use mathlib.Core.Path.{◌≡◌, sym, ap, ◌∙◌}
-use mathlib.Core.Bool.{true, false}
-use lib.Dec.{eqb}
-use lib.ListN.{get_or}
-use borrow.Author.Tests.{eq-eqb, ne_eqb}
+use Prim.Native.Nat.{◌≤◌, ◌-◌}
+use mathlib.Core.Path.{◌≡◌}
+use mathlib.Core.Bool.{false}
 use Rattle.meaning.specs.Text.ModelReader.{used}
-use Rattle.model_text.proofs.Laws.Numbering.{used_step, used_none, used_more}
 use Rattle.model_text.proofs.rules.used.Given as goal
 
 -- Assumes nothing.

@@ -1,5 +1,4 @@
 -- `wrong_task` meets its contract.
-use borrow.Author.Rules.{rules}
 use mathlib.Core.Path.{sym, ◌∙◌}
 use borrow.Author.Tests.{lt-ltb, le-ltb}
 use Rattle.meaning.specs.Text.ModelReader.{rule}

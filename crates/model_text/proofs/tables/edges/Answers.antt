@@ -1,5 +1,4 @@
 -- `edges` meets its contract.
-use borrow.Author.Rules.{rules}
 use native.Mathlib.Omega.{arith}
 use Rattle.meaning.specs.Text.ModelTable.{edges}
 use Rattle.meaning.proofs.Text.ModelLaws.{edges_le}

@@ -1,5 +1,4 @@
 -- `locations` meets its contract.
-use borrow.Author.Rules.{rules}
 use native.Mathlib.Omega.{arith}
 use Rattle.meaning.specs.Text.ModelTable.{locations}
 use Rattle.meaning.proofs.Text.ModelLaws.{locations_le}

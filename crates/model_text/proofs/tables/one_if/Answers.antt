@@ -1,7 +1,6 @@
 -- `one_if` meets its contract.
 use borrow.Author.Tests.{lt-ltb, le-ltb}
 use native.Mathlib.Omega.{arith}
-use borrow.Author.Rules.{rules}
 use Rattle.model_text.proofs.tables.one_if.Goals as goal
 
 pub returns-then-t-k-gt0 : goal.returns-then-t-k-gt0

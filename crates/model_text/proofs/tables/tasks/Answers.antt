@@ -1,5 +1,4 @@
 -- `tasks` meets its contract.
-use borrow.Author.Rules.{rules}
 use native.Mathlib.Omega.{arith}
 use Rattle.meaning.specs.Text.ModelTable.{tasks}
 use Rattle.meaning.proofs.Text.ModelLaws.{tasks_le}

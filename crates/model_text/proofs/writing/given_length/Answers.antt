@@ -1,5 +1,4 @@
 -- `given_length` meets its contract.
-use borrow.Author.Rules.{rules}
 use Prim.Native.Nat.{ℕ}
 use lib.ListN.{length-replicate}
 use Rattle.meaning.specs.Text.ModelTable.{size}

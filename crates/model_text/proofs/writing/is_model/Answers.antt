@@ -1,5 +1,4 @@
 -- `is_model` meets its contract.
-use borrow.Author.Rules.{rules}
 use Rattle.model_text.proofs.Laws.Giving.{not_given, not_given_size, is_given_lem}
 use Rattle.model_text.proofs.writing.is_model.Goals as goal
 

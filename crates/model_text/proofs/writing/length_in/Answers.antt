@@ -1,5 +1,4 @@
 -- `length_in` meets its contract.
-use borrow.Author.Rules.{rules}
 use Prim.Native.Nat.{ℕ}
 use native.Mathlib.Nat.{zero-add}
 use mathlib.Core.Path.{sym, ap, ◌∙◌}

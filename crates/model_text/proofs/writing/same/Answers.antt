@@ -1,10 +1,6 @@
 -- `same` meets its contract.
-use borrow.Author.Rules.{rules}
 use native.Mathlib.Omega.{arith}
-use Prim.Native.Nat.{◌-◌, ◌≤◌}
-use mathlib.Core.Path.{◌≡◌, refl, sym, ◌∙◌}
-use lib.ListN.{length, drop}
-use Rattle.meaning.specs.Lists.{same_list}
+use mathlib.Core.Path.{refl, sym, ◌∙◌}
 use Rattle.model_text.proofs.Laws.Sameness.{same_more, same_not, same_end}
 use Rattle.model_text.proofs.writing.same.Goals as goal
 

@@ -1,11 +1,8 @@
 -- What the loops of `same` keep, and how they end.
-use borrow.Author.Rules.{rules}
-use native.Mathlib.Omega.{arith}
 use Prim.Native.Nat.{◌-◌, ◌≤◌}
-use mathlib.Core.Path.{◌≡◌, refl, sym, ◌∙◌}
+use mathlib.Core.Path.{◌≡◌}
 use lib.ListN.{length, drop}
 use Rattle.meaning.specs.Lists.{same_list}
-use Rattle.model_text.proofs.Laws.Sameness.{same_more, same_not, same_end}
 use Rattle.model_text.proofs.writing.same.Given as goal
 
 -- Assumes nothing.

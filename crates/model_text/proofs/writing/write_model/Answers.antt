@@ -1,5 +1,4 @@
 -- `write_model` meets its contract.
-use borrow.Author.Rules.{rules}
 use native.Mathlib.Omega.{arith}
 use Rattle.model_text.proofs.Laws.Giving.{wrote_size, wrote_none, wrote_short, wrote_text}
 use Rattle.model_text.proofs.writing.write_model.Goals as goal

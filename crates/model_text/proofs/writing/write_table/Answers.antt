@@ -1,13 +1,9 @@
 -- `write_table` meets its contract.
-use borrow.Author.Rules.{rules}
 use native.Mathlib.Omega.{arith}
-use Prim.Native.Nat.{◌+◌, ◌-◌, ◌<◌, ◌≤◌}
-use mathlib.Core.Path.{◌≡◌, refl, ◌∙◌}
+use Prim.Native.Nat.{◌+◌, ◌<◌, ◌≤◌}
+use mathlib.Core.Path.{refl, ◌∙◌}
 use lib.ListN.{length, length-set}
-use Rattle.meaning.specs.Text.Records.{lines_to}
 use Rattle.meaning.specs.Text.ModelTable.{size}
-use Rattle.meaning.specs.Text.ModelReader.{format}
-use Rattle.lines.specs.Put.{Put}
 use Rattle.lines.proofs.Laws.Putting.{put_nothing}
 use Rattle.model_text.proofs.Laws.Writing.{lines_none, end_room, slot_room, put_slot, put_last}
 use Rattle.model_text.proofs.writing.write_table.Goals as goal

@@ -1,15 +1,11 @@
 -- What the loops of `write_table` keep, and how they end.
-use borrow.Author.Rules.{rules}
-use native.Mathlib.Omega.{arith}
-use Prim.Native.Nat.{◌+◌, ◌-◌, ◌<◌, ◌≤◌}
-use mathlib.Core.Path.{◌≡◌, refl, ◌∙◌}
-use lib.ListN.{length, length-set}
+use Prim.Native.Nat.{◌-◌, ◌≤◌}
+use mathlib.Core.Path.{◌≡◌}
+use lib.ListN.{length}
 use Rattle.meaning.specs.Text.Records.{lines_to}
 use Rattle.meaning.specs.Text.ModelTable.{size}
 use Rattle.meaning.specs.Text.ModelReader.{format}
 use Rattle.lines.specs.Put.{Put}
-use Rattle.lines.proofs.Laws.Putting.{put_nothing}
-use Rattle.model_text.proofs.Laws.Writing.{lines_none, end_room, slot_room, put_slot, put_last}
 use Rattle.model_text.proofs.writing.write_table.Given as goal
 
 -- Assumes nothing.

@@ -1,6 +1,5 @@
 -- `slots::change::without_head` meets its contract.
 use native.Mathlib.Omega.{arith}
-use borrow.Author.Rules.{rules}
 use Rattle.slots.proofs.SlotLaws.{stand_tail}
 use Rattle.slots.proofs.change.without_head.Goals as goal
 

@@ -1,12 +1,11 @@
 -- `slots::standing::slots_of` meets its contract.
-use Prim.Native.Nat.{ℕ, ◌+◌, ◌-◌, ◌≤◌, ◌<◌}
 use mathlib.Core.Path.{◌≡◌, refl}
 use native.Mathlib.Omega.{arith}
-use lib.ListN.{length, get_or}
+use lib.ListN.{length}
 use borrow.Author.Rules.{rules}
 use Rattle.meaning.specs.Text.ModelTable.{decode}
 use Rattle.model_table.proofs.PartLaws.{clocks_is}
-use Rattle.slots.proofs.SlotLaws.{sum_from, age_from, Filled, filled_start, filled_more, filled_all, stand_order}
+use Rattle.slots.proofs.SlotLaws.{filled_start, filled_more, filled_all, stand_order}
 use Rattle.slots.proofs.standing.slots_of.Goals as goal
 
 pub loop-k-init : goal.loop-k-init

@@ -1,12 +1,9 @@
 -- What the loops of `slots_of` keep, and how they end.
-use Prim.Native.Nat.{ℕ, ◌+◌, ◌-◌, ◌≤◌, ◌<◌}
-use mathlib.Core.Path.{◌≡◌, refl}
-use native.Mathlib.Omega.{arith}
-use lib.ListN.{length, get_or}
-use borrow.Author.Rules.{rules}
+use Prim.Native.Nat.{ℕ, ◌-◌, ◌≤◌}
+use mathlib.Core.Path.{◌≡◌}
+use lib.ListN.{get_or}
 use Rattle.meaning.specs.Text.ModelTable.{decode}
-use Rattle.model_table.proofs.PartLaws.{clocks_is}
-use Rattle.slots.proofs.SlotLaws.{sum_from, age_from, Filled, filled_start, filled_more, filled_all, stand_order}
+use Rattle.slots.proofs.SlotLaws.{sum_from, age_from, Filled}
 use Rattle.slots.proofs.standing.slots_of.Given as goal
 
 -- Assumes nothing.

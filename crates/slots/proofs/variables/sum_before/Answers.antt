@@ -4,7 +4,6 @@ use mathlib.Core.Path.{◌≡◌, ap}
 use mathlib.Core.List.{List}
 use native.Mathlib.Omega.{arith}
 use lib.ListN.{get_or}
-use borrow.Author.Rules.{rules}
 use Rattle.slots.specs.Stands.{sum_before}
 use Rattle.slots.proofs.variables.sum_before.Goals as goal
 

@@ -1,11 +1,8 @@
 -- What the loops of `with_variable` keep, and how they end.
 use mathlib.Core.Path.{◌≡◌}
 use Prim.Native.Nat.{ℕ, suc, ◌-◌, ◌<◌, ◌≤◌}
-use native.Mathlib.Omega.{arith}
-use borrow.Author.Rules.{rules}
 use lib.ListN.{length, get_or, take}
 use Rattle.meaning.specs.Lists.{insert_at}
-use Rattle.home.proofs.OrderLaws.{zeros, stored, beyond, new_order}
 use Rattle.slots.proofs.variables.with_variable.Given as goal
 
 -- Assumes nothing.

@@ -1,18 +1,8 @@
 -- What the loops of `limits` keep, and how they end.
-use mathlib.Core.Path.{◌≡◌, sym, ◌∙◌, ap, subst}
-use mathlib.Core.Bool.{true}
-use mathlib.Core.Logic.{⊎_elim}
-use Prim.Native.Nat.{◌+◌, ◌-◌, ◌≤◌}
-use native.Mathlib.Omega.{arith}
-use borrow.Author.Tests.{lt-ltb, le-ltb}
-use lib.Dec.{ltb}
+use Prim.Native.Nat.{◌-◌, ◌≤◌}
 use Rattle.meaning.specs.Inner.StepBounds.{limit_bounds}
-use Rattle.model_table.specs.Parts.{limit_in}
-use Rattle.bounds.specs.declared.tightening.Tight.{Tight}
 use Rattle.zone_bounds.specs.Narrowed.{Narrows}
-use Rattle.zone_bounds.proofs.NumberLaws.{read, sub_small}
-use Rattle.step_bounds.proofs.RangeLaws.{limit_small}
-use Rattle.step_bounds.proofs.TableLaws.{limits_to, limits_first, limits_next, limits_same, limits_all}
+use Rattle.step_bounds.proofs.TableLaws.{limits_to}
 use Rattle.step_bounds.proofs.limits.limits.Given as goal
 
 -- Assumes nothing.

@@ -1,15 +1,12 @@
 -- What the loops of `beats_none` keep, and how they end.
-use mathlib.Core.Path.{◌≡◌}
 use mathlib.Core.List.{List}
 use Prim.Native.Nat.{◌-◌, ◌≤◌}
-use native.Mathlib.Omega.{arith}
 use Rattle.meaning.specs.Text.ModelTable.{decode}
 use Rattle.meaning.specs.Inner.Slots.{Slot}
 use Rattle.meaning.specs.Inner.Tests.{test_at}
-use Rattle.slots.specs.Stands.{no_slot, Stand}
+use Rattle.slots.specs.Stands.{Stand}
 use Rattle.zone_bounds.specs.Narrowed.{Narrows}
 use Rattle.step_bounds.specs.Places.{staying}
-use Rattle.step_bounds.proofs.PlaceLaws.{place_first, place_next}
 use Rattle.step_bounds.proofs.place.beats_none.Given as goal
 
 -- Assumes nothing.

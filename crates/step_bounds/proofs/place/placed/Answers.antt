@@ -1,13 +1,8 @@
 -- `step_bounds::place::placed` meets its contract.
 use mathlib.Core.Path.{◌≡◌}
-use Prim.Native.Nat.{◌-◌, ◌≤◌}
 use native.Mathlib.Omega.{arith}
-use lib.ListN.{length, take}
+use lib.ListN.{length}
 use Rattle.meaning.specs.Text.ModelTable.{decode}
-use Rattle.meaning.specs.Inner.Slots.{slots_of}
-use Rattle.meaning.specs.Inner.Places.{position_bounds}
-use Rattle.home.specs.Stands.{order_of, tasks_of}
-use Rattle.zone_bounds.specs.Narrowed.{Narrows}
 use Rattle.zone_bounds.proofs.NarrowLaws.{narrows_no}
 use Rattle.step_bounds.proofs.PlaceLaws.{slots_by, turn_high, place_in, placed_next, placed_all}
 use borrow.Author.Rules.{rules}

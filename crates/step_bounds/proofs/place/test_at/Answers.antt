@@ -2,7 +2,6 @@
 use native.Mathlib.Omega.{arith}
 use Rattle.meaning.specs.Text.ModelTable.{decode}
 use Rattle.step_bounds.proofs.PlaceLaws.{before_known, test_slot}
-use borrow.Author.Rules.{rules}
 use Rattle.step_bounds.proofs.place.test_at.Goals as goal
 
 pub test_of-requires : goal.test_of-requires

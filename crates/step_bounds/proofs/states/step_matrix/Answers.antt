@@ -8,7 +8,6 @@ use Rattle.zone_list.specs.declared.form.Kind.{Kind}
 use Rattle.zone_list.specs.declared.form.Kind.TheVariants.{GoOn, Finish, Edge}
 use Rattle.zone_bounds.proofs.NarrowLaws.{narrows_then}
 use Rattle.step_bounds.specs.Places.{EdgeIn}
-use borrow.Author.Rules.{rules}
 use Rattle.step_bounds.proofs.states.step_matrix.Goals as goal
 
 pub edge_matrix-requires : goal.edge_matrix-requires

@@ -8,7 +8,6 @@ use Rattle.model_table.proofs.PartLaws.{deadline_is, deadline_small}
 use Rattle.zone_bounds.proofs.NumberLaws.{read}
 use Rattle.step_bounds.proofs.RangeLaws.{task_times}
 use Rattle.step_bounds.proofs.TestLaws.{deadline_tie, deadline_less}
-use borrow.Author.Rules.{rules}
 use Rattle.step_bounds.proofs.tests.deadline_test.Goals as goal
 
 pub less-requires : goal.less-requires

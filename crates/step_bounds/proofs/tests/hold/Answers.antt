@@ -6,7 +6,6 @@ use Rattle.zone_bounds.proofs.NumberLaws.{size_fits, size_more}
 use Rattle.zone_bounds.proofs.NarrowLaws.{narrows_no}
 use Rattle.step_bounds.specs.Tests.{Askable}
 use Rattle.step_bounds.specs.declared.tests.Test.TheVariants.{Always, Never, AtMost}
-use borrow.Author.Rules.{rules}
 use Rattle.step_bounds.proofs.tests.hold.Goals as goal
 
 pub narrow-requires : goal.narrow-requires

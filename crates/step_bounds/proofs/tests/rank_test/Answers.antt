@@ -3,7 +3,6 @@ use native.Mathlib.Omega.{arith}
 use Rattle.meaning.specs.Text.ModelTable.{decode}
 use Rattle.model_table.proofs.PartLaws.{priority_is}
 use Rattle.step_bounds.proofs.TestLaws.{rank_yes, rank_no}
-use borrow.Author.Rules.{rules}
 use Rattle.step_bounds.proofs.tests.rank_test.Goals as goal
 
 pub returns-then-priority : goal.returns-then-priority

@@ -4,7 +4,6 @@ use Rattle.meaning.specs.Text.ModelTable.{decode}
 use Rattle.meaning.proofs.Text.Policies.{policy_fps, policy_edf, policy_sjf}
 use Rattle.model_table.proofs.PartLaws.{policy_is}
 use Rattle.step_bounds.proofs.TestLaws.{test_under}
-use borrow.Author.Rules.{rules}
 use Rattle.step_bounds.proofs.tests.test_of.Goals as goal
 
 pub returns-then-number-eq1 : goal.returns-then-number-eq1

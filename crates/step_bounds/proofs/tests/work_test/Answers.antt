@@ -8,7 +8,6 @@ use Rattle.model_table.proofs.PartLaws.{work_is, work_small}
 use Rattle.zone_bounds.proofs.NumberLaws.{read}
 use Rattle.step_bounds.proofs.RangeLaws.{task_times}
 use Rattle.step_bounds.proofs.TestLaws.{work_less}
-use borrow.Author.Rules.{rules}
 use Rattle.step_bounds.proofs.tests.work_test.Goals as goal
 
 pub overflow_add-work : goal.overflow_add-work

@@ -1,5 +1,4 @@
 -- `zone::Zone::exactly` meets its contract.
-use borrow.Author.Rules.{rules}
 use Rattle.model_table.proofs.GivenLaws.{given_table}
 use Rattle.zone.proofs.Zone.exactly.Goals as goal
 

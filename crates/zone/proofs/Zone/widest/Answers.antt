@@ -1,5 +1,4 @@
 -- `zone::Zone::widest` meets its contract.
-use borrow.Author.Rules.{rules}
 use Rattle.model_table.proofs.GivenLaws.{given_table}
 use Rattle.zone.proofs.Zone.widest.Goals as goal
 

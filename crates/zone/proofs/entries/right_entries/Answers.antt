@@ -4,9 +4,8 @@ use mathlib.Core.Bool.{true≢false}
 use lib.IntN.{pos}
 use lib.ListN.{get_or}
 use Rattle.bounds.proofs.Signed.{rd}
-use Prim.Native.Nat.{◌-◌}
 use Rattle.home.proofs.Walks.{is_so, is_not}
-use Rattle.zone.proofs.EntryLaws.{Passed, passed_start, passed_more, passed_end}
+use Rattle.zone.proofs.EntryLaws.{passed_start, passed_more, passed_end}
 use borrow.Author.Rules.{rules}
 use native.Mathlib.Omega.{arith}
 use Rattle.zone.proofs.entries.right_entries.Goals as goal

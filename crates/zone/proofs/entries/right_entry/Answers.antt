@@ -2,7 +2,6 @@
 use Rattle.bounds.proofs.Signed.{back}
 use Rattle.home.proofs.Walks.{is_so, is_not}
 use Rattle.zone.proofs.EntryLaws.{is_none, is_bound_lem}
-use borrow.Author.Rules.{rules}
 use native.Mathlib.Omega.{arith}
 use Rattle.zone.proofs.entries.right_entry.Goals as goal
 

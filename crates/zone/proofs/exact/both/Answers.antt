@@ -8,7 +8,6 @@ use mir.Val.{SFits}
 use mir.Facts.{sfits_lit}
 use Rattle.meaning.proofs.Numbers.{over_neg, under_neg, parts_one}
 use Rattle.bounds.proofs.Signed.{signed, rd, back, at, fits_make, diff_at, diff_fits}
-use borrow.Author.Rules.{rules}
 use native.Mathlib.Omega.{arith}
 use Rattle.zone.proofs.exact.both.Goals as goal
 

@@ -1,9 +1,9 @@
 -- `zone::exact::of_clocks` meets its contract.
-use Prim.Native.Nat.{◌+◌, ◌-◌}
-use mathlib.Core.Path.{◌≡◌, sym, subst}
+use Prim.Native.Nat.{◌+◌}
+use mathlib.Core.Path.{sym, subst}
 use mathlib.Core.List.{List}
 use lib.IntN.{ℤ}
-use lib.ListN.{length, replicate}
+use lib.ListN.{replicate}
 use Rattle.zone_bounds.specs.Entries.{no_bound}
 use Rattle.zone.proofs.ExactLaws.{ClocksUpto, clocks_start, clocks_more, clocks_end, empty_made}
 use borrow.Author.Rules.{rules}

@@ -1,9 +1,8 @@
 -- `zone::exact::with_jobs` meets its contract.
-use Prim.Native.Nat.{◌-◌}
-use mathlib.Core.Path.{◌≡◌, refl}
-use lib.ListN.{length, get_or}
+use mathlib.Core.Path.{refl}
+use lib.ListN.{get_or}
 use Rattle.machine.specs.Stands.{no_job}
-use Rattle.zone.proofs.ExactLaws.{JobsUpto, jobs_start, jobs_more, jobs_end}
+use Rattle.zone.proofs.ExactLaws.{jobs_start, jobs_more, jobs_end}
 use borrow.Author.Rules.{rules}
 use native.Mathlib.Omega.{arith}
 use Rattle.zone.proofs.exact.with_jobs.Goals as goal

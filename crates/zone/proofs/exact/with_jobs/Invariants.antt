@@ -1,11 +1,8 @@
 -- What the loops of `with_jobs` keep, and how they end.
 use Prim.Native.Nat.{◌-◌}
-use mathlib.Core.Path.{◌≡◌, refl}
-use lib.ListN.{length, get_or}
-use Rattle.machine.specs.Stands.{no_job}
-use Rattle.zone.proofs.ExactLaws.{JobsUpto, jobs_start, jobs_more, jobs_end}
-use borrow.Author.Rules.{rules}
-use native.Mathlib.Omega.{arith}
+use mathlib.Core.Path.{◌≡◌}
+use lib.ListN.{length}
+use Rattle.zone.proofs.ExactLaws.{JobsUpto}
 use Rattle.zone.proofs.exact.with_jobs.Given as goal
 
 -- Assumes nothing.

@@ -2,7 +2,6 @@
 use mathlib.Core.Path.{refl, sym, ◌∙◌}
 use mathlib.Core.Bool.{true≢false}
 use Rattle.meaning.specs.Text.ModelTable.{decode}
-use borrow.Author.Rules.{rules}
 use Rattle.zone.proofs.making.widest_given.Goals as goal
 
 pub returns-then-is_home : goal.returns-then-is_home

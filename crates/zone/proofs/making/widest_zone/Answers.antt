@@ -1,6 +1,5 @@
 -- `zone::making::widest_zone` meets its contract.
 use Rattle.zone.proofs.MadeLaws.{widest_made}
-use borrow.Author.Rules.{rules}
 use Rattle.zone.proofs.making.widest_zone.Goals as goal
 
 pub returns : goal.returns

@@ -1,5 +1,4 @@
 -- `zone_bounds::narrowing::widest` meets its contract.
-use borrow.Author.Rules.{rules}
 use Rattle.zone_bounds.proofs.NarrowLaws.{narrowed_first}
 use Rattle.zone_bounds.proofs.narrowing.widest.Goals as goal
 

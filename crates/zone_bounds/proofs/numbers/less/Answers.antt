@@ -3,7 +3,6 @@ use mathlib.Core.Path.{sym, subst}
 use lib.IntN.{sub_ℕ}
 use mir.Syntax.{w32}
 use mir.Val.{SFits}
-use borrow.Author.Rules.{rules}
 use Rattle.bounds.proofs.Signed.{back}
 use Rattle.zone_bounds.proofs.NumberLaws.{cast_less, sub_fits}
 use Rattle.zone_bounds.proofs.numbers.less.Goals as goal

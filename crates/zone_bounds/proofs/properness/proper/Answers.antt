@@ -1,16 +1,15 @@
 -- `zone_bounds::properness::proper` meets its contract.
 use mathlib.Core.Path.{◌≡◌, ◌∙◌, ap}
-use Prim.Native.Nat.{ℕ, ◌+◌, ◌-◌, ◌≤◌, suc}
+use Prim.Native.Nat.{ℕ, ◌+◌, ◌≤◌, suc}
 use native.Mathlib.Omega.{arith}
 use borrow.Author.Rules.{rules}
 use lib.ListN.{length, take}
 use lib.Seq.{get_or-take}
 use Rattle.meaning.specs.Text.ModelTable.{decode}
-use Rattle.meaning.specs.Inner.Slots.{slots_of, sum_ahead, slots_flat, proper_at}
+use Rattle.meaning.specs.Inner.Slots.{slots_of, sum_ahead, proper_at}
 use Rattle.meaning.proofs.Exact.Loops.{proper_flat}
 use Rattle.model_table.proofs.PartLaws.{clocks_is}
 use Rattle.home.proofs.HomeLaws.{order_length}
-use Rattle.zone_bounds.specs.Narrowed.{Narrows}
 use Rattle.zone_bounds.proofs.NarrowLaws.{narrows_no}
 use Rattle.zone_bounds.proofs.LoopLaws.{clocks_small, ahead_below, queue_next, queue_done}
 use Rattle.zone_bounds.proofs.properness.proper.Goals as goal
@@ -30,19 +29,19 @@ bounds-tasks-k c = omega arith
 pub sum_ahead-requires : goal.sum_ahead-requires
 sum_ahead-requires c =
     let clocks-few : c.clocks-n.result ≤ 4 =
-        (omega (arith, c.clocks-n.ensures, clocks_small c.args.model.now c.requires.right_table)) in
+    (omega (arith, c.clocks-n.ensures, clocks_small c.args.model.now c.requires.right_table)) in
     (clocks-few, omega arith)
 
 pub sum_at-requires : goal.sum_at-requires
 sum_at-requires c =
     let clocks-few : c.clocks-n.result ≤ 4 =
-        (omega (arith, c.clocks-n.ensures, clocks_small c.args.model.now c.requires.right_table)) in
+    (omega (arith, c.clocks-n.ensures, clocks_small c.args.model.now c.requires.right_table)) in
     (clocks-few, omega arith)
 
 pub proper_job-r-requires : goal.proper_job-r-requires
 proper_job-r-requires c =
     let clocks-few : c.clocks-n.result ≤ 4 =
-        (omega (arith, c.clocks-n.ensures, clocks_small c.args.model.now c.requires.right_table)) in
+    (omega (arith, c.clocks-n.ensures, clocks_small c.args.model.now c.requires.right_table)) in
     let n = clocks-few in record { right_table = c.requires.right_table; a_bound = (omega (arith, c.sum_ahead.ensures, ahead_below (suc c.clocks-n.result) c.loop-k.k (omega arith) (omega arith)), omega (arith, c.sum_at.ensures)); workable = c.loop-k.invariant.1.usable }
 
 pub overflow_add-k : goal.overflow_add-k

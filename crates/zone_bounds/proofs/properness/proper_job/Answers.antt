@@ -34,9 +34,9 @@ narrow-ordered-requires c =
 pub narrow-worked-requires : goal.narrow-worked-requires
 narrow-worked-requires c =
     let work-less : rd c.less-c.result ≡ sub_ℕ (task_at (decode c.args.model.now) c.args.task).C 1 =
-        (let l = c.less-c in
-        read l.result _ (record { sfits = l.type_inv })
-        (l.ensures ∙ ap (λ (x : ℕ). sub_ℕ x 1) (c.work.ensures ∙ work_is c.args.model.now c.requires.right_table c.args.task))) in
+    (let l = c.less-c in
+    read l.result _ (record { sfits = l.type_inv })
+    (l.ensures ∙ ap (λ (x : ℕ). sub_ℕ x 1) (c.work.ensures ∙ work_is c.args.model.now c.requires.right_table c.args.task))) in
     let w = work_small c.args.model.now c.requires.right_table c.args.task in
     let e = work_is c.args.model.now c.requires.right_table c.args.task in
     rw (work-less) (record { i_bound = (omega (arith, c.requires.a_bound.1), omega (arith, c.requires.a_bound.0)); size = sub_small (task_at (decode c.args.model.now) c.args.task).C 1 (omega arith) (omega arith); workable = c.narrow-ordered.ensures.usable })
@@ -47,9 +47,9 @@ overflow_add-s c = omega (arith, c.requires.a_bound.1)
 pub narrow-requires : goal.narrow-requires
 narrow-requires c =
     let deadline-less : rd c.less-d.result ≡ sub_ℕ (task_at (decode c.args.model.now) c.args.task).D 1 =
-        (let l = c.less-d in
-        read l.result _ (record { sfits = l.type_inv })
-        (l.ensures ∙ ap (λ (x : ℕ). sub_ℕ x 1) (c.deadline.ensures ∙ deadline_is c.args.model.now c.requires.right_table c.args.task))) in
+    (let l = c.less-d in
+    read l.result _ (record { sfits = l.type_inv })
+    (l.ensures ∙ ap (λ (x : ℕ). sub_ℕ x 1) (c.deadline.ensures ∙ deadline_is c.args.model.now c.requires.right_table c.args.task))) in
     let w = deadline_small c.args.model.now c.requires.right_table c.args.task in
     let e = deadline_is c.args.model.now c.requires.right_table c.args.task in
     rw (deadline-less) (record { i_bound = (omega (arith, c.requires.a_bound.1), omega arith); size = sub_small (task_at (decode c.args.model.now) c.args.task).D 1 (omega arith) (omega arith); workable = c.narrow-worked.ensures.usable })
@@ -57,13 +57,13 @@ narrow-requires c =
 pub returns : goal.returns
 returns c =
     let work-less : rd c.less-c.result ≡ sub_ℕ (task_at (decode c.args.model.now) c.args.task).C 1 =
-        (let l = c.less-c in
-        read l.result _ (record { sfits = l.type_inv })
-        (l.ensures ∙ ap (λ (x : ℕ). sub_ℕ x 1) (c.work.ensures ∙ work_is c.args.model.now c.requires.right_table c.args.task))) in
+    (let l = c.less-c in
+    read l.result _ (record { sfits = l.type_inv })
+    (l.ensures ∙ ap (λ (x : ℕ). sub_ℕ x 1) (c.work.ensures ∙ work_is c.args.model.now c.requires.right_table c.args.task))) in
     let deadline-less : rd c.less-d.result ≡ sub_ℕ (task_at (decode c.args.model.now) c.args.task).D 1 =
-        (let l = c.less-d in
-        read l.result _ (record { sfits = l.type_inv })
-        (l.ensures ∙ ap (λ (x : ℕ). sub_ℕ x 1) (c.deadline.ensures ∙ deadline_is c.args.model.now c.requires.right_table c.args.task))) in
+    (let l = c.less-d in
+    read l.result _ (record { sfits = l.type_inv })
+    (l.ensures ∙ ap (λ (x : ℕ). sub_ℕ x 1) (c.deadline.ensures ∙ deadline_is c.args.model.now c.requires.right_table c.args.task))) in
     let t = c.args.t in
     let a = c.narrow-ordered.ensures in
     let b = rw (work-less) at c.narrow-worked.ensures in

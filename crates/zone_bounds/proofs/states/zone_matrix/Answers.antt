@@ -1,6 +1,5 @@
 -- `zone_bounds::states::zone_matrix` meets its contract.
 use mathlib.Core.List.{[]}
-use borrow.Author.Rules.{rules}
 use Rattle.meaning.specs.Text.ModelTable.{decode}
 use Rattle.meaning.specs.Inner.Slots.{proper_bounds}
 use Rattle.home.specs.Stands.{order_of}

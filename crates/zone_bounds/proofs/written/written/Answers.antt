@@ -1,7 +1,6 @@
 -- `zone_bounds::written::written` meets its contract.
 use mathlib.Core.Path.{◌≡◌, sym, subst}
-use mathlib.Core.Logic.{⊎_elim}
-use Prim.Native.Nat.{◌+◌, ◌-◌, ◌≤◌}
+use Prim.Native.Nat.{◌+◌}
 use native.Mathlib.Omega.{arith}
 use borrow.Author.Rules.{rules}
 use lib.IntN.{pos}
@@ -25,7 +24,7 @@ bounds-bounds-k c = omega arith
 pub narrow-r-requires : goal.narrow-r-requires
 narrow-r-requires c =
     let read_back : let z = get_or c.args.bounds c.loop-k.k (pos 0) in rd z ≡ z =
-        (search rules) in
+    (search rules) in
     let z = get_or c.args.bounds c.loop-k.k (pos 0) in
     let e = read_back in
     let b = is_below z (omega (signed, eq_read e)) in
@@ -40,17 +39,17 @@ loop-k-smaller c = omega arith
 pub loop-k-preserved : goal.loop-k-preserved
 loop-k-preserved c =
     let read_back : let z = get_or c.args.bounds c.loop-k.k (pos 0) in rd z ≡ z =
-        (search rules) in
+    (search rules) in
     let z = get_or c.args.bounds c.loop-k.k (pos 0) in
     let e = read_back in
     let k = c.loop-k.k in
     elim c.if-c-lt-NONE.branch [
-      then-c-lt-NONE w ↦ (
+      | then-c-lt-NONE w ↦ (
         omega arith,
         subst (λ (r : Tight). Narrows (written_to c.args.bounds (k + 1)) c.args.t r) (sym w.r-is)
             (written_next c.args.bounds k c.args.t c.loop-k.r w.narrow-r.result (is_below z (omega (signed, eq_read e, w.if-c-lt-NONE.true))) c.loop-k.invariant.1 (rw e at w.narrow-r.ensures)),
       )
-    | else-c-lt-NONE w ↦ (
+      | else-c-lt-NONE w ↦ (
         omega arith,
         subst (λ (r : Tight). Narrows (written_to c.args.bounds (k + 1)) c.args.t r) (sym w.r-is)
             (written_same c.args.bounds k c.args.t c.loop-k.r (not_below z (c.requires.takable.each k (omega arith)) (omega (signed, eq_read e, w.if-c-lt-NONE.false))) c.loop-k.invariant.1),

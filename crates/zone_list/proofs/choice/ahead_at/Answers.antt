@@ -1,7 +1,7 @@
 -- `zone_list::choice::ahead_at` meets its contract.
 use mathlib.Core.Path.{◌≡◌, sym, ◌∙◌, ap}
 use mathlib.Core.List.{List}
-use Prim.Native.Nat.{ℕ, ◌+◌, ◌-◌}
+use Prim.Native.Nat.{ℕ, ◌+◌}
 use native.Mathlib.Numerals.{add-one}
 use lib.ListN.{length, get_or, take, drop}
 use lib.Seq.{get_or-take, length-take-le}
@@ -10,7 +10,7 @@ use Rattle.meaning.specs.Zones.Steps.{choices}
 use Rattle.meaning.specs.Text.ModelTable.{decode}
 use Rattle.home.specs.Stands.{tasks_of}
 use Rattle.zone_list.proofs.ChoiceLaws.{choices_next}
-use Rattle.zone_list.proofs.ChosenLaws.{Seeking, seek_start, seek_turn, seek_here, seek_end}
+use Rattle.zone_list.proofs.ChosenLaws.{seek_start, seek_turn, seek_here, seek_end}
 use borrow.Author.Rules.{rules}
 use native.Mathlib.Omega.{arith}
 use Rattle.zone_list.proofs.choice.ahead_at.Goals as goal

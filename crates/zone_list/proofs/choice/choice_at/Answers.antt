@@ -1,14 +1,14 @@
 -- `zone_list::choice::choice_at` meets its contract.
 use mathlib.Core.Path.{◌≡◌, refl, sym, ◌∙◌}
 use mathlib.Core.List.{[], ◌∷◌}
-use Prim.Native.Nat.{suc, ◌+◌, ◌-◌, ◌≤◌}
-use lib.ListN.{length, length-set, get_or, take}
+use Prim.Native.Nat.{suc, ◌+◌}
+use lib.ListN.{length-set, get_or, take}
 use lib.Seq.{get_or-take, length-take-le}
 use Rattle.bounds.proofs.Store.{zeros}
 use Rattle.meaning.specs.Lists.{insert_at}
 use Rattle.meaning.specs.Text.ModelTable.{decode}
 use Rattle.home.specs.Stands.{tasks_of}
-use Rattle.zone_list.proofs.ChosenLaws.{Choosing, choosing_start, choosing_turn, choosing_end}
+use Rattle.zone_list.proofs.ChosenLaws.{choosing_start, choosing_turn, choosing_end}
 use borrow.Author.Rules.{rules}
 use native.Mathlib.Omega.{arith}
 use Rattle.zone_list.proofs.choice.choice_at.Goals as goal

@@ -1,16 +1,10 @@
 -- What the loops of `choice_at` keep, and how they end.
-use mathlib.Core.Path.{◌≡◌, refl, sym, ◌∙◌}
-use mathlib.Core.List.{[], ◌∷◌}
-use Prim.Native.Nat.{suc, ◌+◌, ◌-◌, ◌≤◌}
-use lib.ListN.{length, length-set, get_or, take}
-use lib.Seq.{get_or-take, length-take-le}
-use Rattle.bounds.proofs.Store.{zeros}
-use Rattle.meaning.specs.Lists.{insert_at}
+use mathlib.Core.Path.{◌≡◌}
+use Prim.Native.Nat.{◌+◌, ◌-◌, ◌≤◌}
+use lib.ListN.{length, take}
 use Rattle.meaning.specs.Text.ModelTable.{decode}
 use Rattle.home.specs.Stands.{tasks_of}
-use Rattle.zone_list.proofs.ChosenLaws.{Choosing, choosing_start, choosing_turn, choosing_end}
-use borrow.Author.Rules.{rules}
-use native.Mathlib.Omega.{arith}
+use Rattle.zone_list.proofs.ChosenLaws.{Choosing}
 use Rattle.zone_list.proofs.choice.choice_at.Given as goal
 
 -- Assumes nothing.

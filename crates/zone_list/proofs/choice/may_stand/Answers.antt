@@ -2,7 +2,6 @@
 use native.Mathlib.Omega.{arith}
 use borrow.Author.Tests.{leb-true, le-leb}
 use Rattle.home.proofs.Walks.{is_not}
-use borrow.Author.Rules.{rules}
 use Rattle.zone_list.proofs.choice.may_stand.Goals as goal
 
 pub returns-then-ahead-first_place : goal.returns-then-ahead-first_place

@@ -1,6 +1,6 @@
 -- `zone_list::form::ahead_of` meets its contract.
 use mathlib.Core.Path.{◌≡◌, ◌∙◌}
-use Prim.Native.Nat.{ℕ, ◌-◌, ◌<◌, ◌≤◌}
+use Prim.Native.Nat.{◌-◌, ◌<◌}
 use native.Mathlib.Decide.{dec_lt}
 use lib.ListN.{length, get_or, get_or-eq_default}
 use Rattle.bounds.proofs.Store.{stored_n, beyond_n, zeros}

@@ -1,11 +1,7 @@
 -- What the loops of `ahead_of` keep, and how they end.
-use mathlib.Core.Path.{◌≡◌, ◌∙◌}
+use mathlib.Core.Path.{◌≡◌}
 use Prim.Native.Nat.{ℕ, ◌-◌, ◌<◌, ◌≤◌}
-use native.Mathlib.Decide.{dec_lt}
-use lib.ListN.{length, get_or, get_or-eq_default}
-use Rattle.bounds.proofs.Store.{stored_n, beyond_n, zeros}
-use borrow.Author.Rules.{rules}
-use native.Mathlib.Omega.{arith}
+use lib.ListN.{length, get_or}
 use Rattle.zone_list.proofs.form.ahead_of.Given as goal
 
 -- Assumes nothing.

@@ -1,10 +1,7 @@
 -- `zone_list::listed::are_numbered` meets its contract.
-use mathlib.Core.Path.{◌≡◌}
-use Prim.Native.Nat.{◌-◌, ◌≤◌}
-use lib.ListN.{length}
 use Rattle.meaning.proofs.Tests.{never}
 use Rattle.home.proofs.Walks.{is_so, is_not}
-use Rattle.zone_list.proofs.FormLaws.{Checked, checked_start, checked_more, checked_not, checked_all}
+use Rattle.zone_list.proofs.FormLaws.{checked_start, checked_more, checked_not, checked_all}
 use borrow.Author.Rules.{rules}
 use native.Mathlib.Omega.{arith}
 use Rattle.zone_list.proofs.listed.are_numbered.Goals as goal

@@ -1,7 +1,6 @@
 -- `zone_list::listed::has` meets its contract.
 use Rattle.meaning.proofs.Tests.{never}
 use Rattle.home.proofs.Walks.{is_not}
-use borrow.Author.Rules.{rules}
 use Rattle.zone_list.proofs.listed.has.Goals as goal
 
 pub has_formed-requires : goal.has_formed-requires

@@ -3,7 +3,6 @@ use mathlib.Core.Path.{◌≡◌, refl}
 use mathlib.Core.List.Memᴰ
 use Rattle.home.proofs.Walks.{is_so}
 use Rattle.zone_list.specs.declared.form.Kind.TheVariants.{GoOn, Finish, Edge}
-use borrow.Author.Rules.{rules}
 use Rattle.zone_list.proofs.listed.has_formed.Goals as goal
 
 pub returns-in-GoOn : goal.returns-in-GoOn

@@ -3,7 +3,6 @@ use native.Mathlib.Omega.{arith}
 use Rattle.meaning.proofs.Tests.{never}
 use Rattle.home.proofs.Walks.{is_not}
 use Rattle.zone_list.proofs.FormLaws.{form_made, form_numbered}
-use borrow.Author.Rules.{rules}
 use Rattle.zone_list.proofs.listed.is_formed.Goals as goal
 
 -- Assumes nothing.

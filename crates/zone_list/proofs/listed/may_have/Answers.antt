@@ -3,7 +3,6 @@ use mathlib.Core.Path.{◌≡◌}
 use borrow.Author.Tests.{eqb-true, eq-eqb}
 use Rattle.home.proofs.Walks.{is_so}
 use Rattle.zone_list.specs.declared.form.Kind.TheVariants.{GoOn, Finish, Edge}
-use borrow.Author.Rules.{rules}
 use Rattle.zone_list.proofs.listed.may_have.Goals as goal
 
 pub returns-in-GoOn : goal.returns-in-GoOn

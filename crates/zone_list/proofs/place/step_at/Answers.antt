@@ -3,7 +3,6 @@ use native.Mathlib.Omega.{arith}
 use Rattle.meaning.specs.Text.ModelTable.{decode}
 use Rattle.home.specs.Stands.{home_of}
 use Rattle.zone_list.proofs.PlaceLaws.{first_step, second_step, found_step}
-use borrow.Author.Rules.{rules}
 use Rattle.zone_list.proofs.place.step_at.Goals as goal
 
 pub returns-then-x-eq1 : goal.returns-then-x-eq1

@@ -4,7 +4,6 @@ use Rattle.meaning.specs.Text.ModelTable.{decode}
 use Rattle.home.specs.Stands.{home_of}
 use Rattle.zone_list.specs.declared.form.Kind.TheVariants.{Edge}
 use Rattle.zone_list.proofs.ShareLaws.{edge_over}
-use borrow.Author.Rules.{rules}
 use Rattle.zone_list.proofs.share.overflows.Goals as goal
 
 pub returns-in-Edge : goal.returns-in-Edge

@@ -5,7 +5,6 @@ use Prim.Native.Nat.{ℕ}
 use Rattle.meaning.specs.Machine.Release.{overflows_any}
 use Rattle.meaning.specs.Text.ModelTable.{decode}
 use Rattle.home.specs.Stands.{order_of}
-use borrow.Author.Rules.{rules}
 use Rattle.zone_list.proofs.share.releases_over.Goals as goal
 
 pub returns : goal.returns

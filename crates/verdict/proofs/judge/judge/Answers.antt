@@ -25,11 +25,15 @@ plan_of-plan-requires c = record { right_table = c.requires.right_table.0; right
 pub by_kind-requires : goal.by_kind-requires
 by_kind-requires c =
     let t = c.step_matrix-t in
-    let y = c.requires.closed_by in record { right_table = c.requires.right_table; right_home = y.closed.right; drawn_by = record {
-          zone = y.zone;
-          step = step_of c.args.step;
-          drawn = drawn_of (decode c.args.model.now) c.requires.right_table.0.right c.args.home c.args.closed (step_of c.args.step) t.result t.ensures y.zone y.closed c.plan_of-plan.result c.plan_of-plan.ensures c.if-t.false;
-        } }
+    let y = c.requires.closed_by in record {
+      right_table = c.requires.right_table;
+      right_home = y.closed.right;
+      drawn_by = record {
+        zone = y.zone;
+        step = step_of c.args.step;
+        drawn = drawn_of (decode c.args.model.now) c.requires.right_table.0.right c.args.home c.args.closed (step_of c.args.step) t.result t.ensures y.zone y.closed c.plan_of-plan.result c.plan_of-plan.ensures c.if-t.false;
+      };
+    }
 
 pub returns : goal.returns
 returns c =

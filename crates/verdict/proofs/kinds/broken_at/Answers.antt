@@ -12,78 +12,67 @@ use Rattle.verdict.proofs.kinds.broken_at.Goals as goal
 pub claimed-c-requires : goal.claimed-c-requires
 claimed-c-requires c =
     let few : c.args.plan.variables ≤ 17 =
-        (let a = c.requires.broken_by.apart in
-        plan_few (decode c.args.model.now) a.zone a.step c.args.plan a.drawn.planned c.requires.right_table.right) in
+    (let a = c.requires.broken_by.apart in
+    plan_few (decode c.args.model.now) a.zone a.step c.args.plan a.drawn.planned c.requires.right_table.right) in
     let row : c.args.i < 17 =
-        (omega (arith, few, c.requires.broken_by.row)) in
+    (omega (arith, few, c.requires.broken_by.row)) in
     let column : c.args.j < 17 =
-        (omega (arith, few, c.requires.broken_by.column)) in
+    (omega (arith, few, c.requires.broken_by.column)) in
     record { a_bound = (row, column); cells = c.requires.broken_by.cells }
 
 pub overflow_cast-result : goal.overflow_cast-result
 overflow_cast-result c =
     let few : c.args.plan.variables ≤ 17 =
-        (let a = c.requires.broken_by.apart in
-        plan_few (decode c.args.model.now) a.zone a.step c.args.plan a.drawn.planned c.requires.right_table.right) in
+    (let a = c.requires.broken_by.apart in
+    plan_few (decode c.args.model.now) a.zone a.step c.args.plan a.drawn.planned c.requires.right_table.right) in
     let row : c.args.i < 17 =
-        (omega (arith, few, c.requires.broken_by.row)) in
+    (omega (arith, few, c.requires.broken_by.row)) in
     record { fits = omega (arith, row) }
 
 pub overflow_cast-result-2 : goal.overflow_cast-result-2
 overflow_cast-result-2 c =
     let few : c.args.plan.variables ≤ 17 =
-        (let a = c.requires.broken_by.apart in
-        plan_few (decode c.args.model.now) a.zone a.step c.args.plan a.drawn.planned c.requires.right_table.right) in
+    (let a = c.requires.broken_by.apart in
+    plan_few (decode c.args.model.now) a.zone a.step c.args.plan a.drawn.planned c.requires.right_table.right) in
     let column : c.args.j < 17 =
-        (omega (arith, few, c.requires.broken_by.column)) in
+    (omega (arith, few, c.requires.broken_by.column)) in
     record { fits = omega (arith, column) }
 
 pub overflow_add-c : goal.overflow_add-c
 overflow_add-c c =
     let few : c.args.plan.variables ≤ 17 =
-        (let a = c.requires.broken_by.apart in
-        plan_few (decode c.args.model.now) a.zone a.step c.args.plan a.drawn.planned c.requires.right_table.right) in
-    let row : c.args.i < 17 =
-        (omega (arith, few, c.requires.broken_by.row)) in
-    let column : c.args.j < 17 =
-        (omega (arith, few, c.requires.broken_by.column)) in
+    (let a = c.requires.broken_by.apart in
+    plan_few (decode c.args.model.now) a.zone a.step c.args.plan a.drawn.planned c.requires.right_table.right) in
+    let row : c.args.i < 17 = omega (arith, few, c.requires.broken_by.row) in
+    let column : c.args.j < 17 = omega (arith, few, c.requires.broken_by.column) in
     let most : cell c.args.zones.now c.args.start c.args.i c.args.j ≤ 64001 =
-        (omega (arith, c.requires.broken_by.cells.small (c.args.i * 17 + c.args.j) (omega (arith, row, column)))) in
-    let told : Claimed (cell c.args.zones.now c.args.start c.args.i c.args.j) c.claimed-c.result =
-        (c.claimed-c.ensures) in
-    let s = c c in above_fits s.args.zones.now s.args.start s.args.i s.args.j (most) s.pre.1.there c.claimed-c.result (told)
+    omega (arith, c.requires.broken_by.cells.small (c.args.i * 17 + c.args.j) (omega (arith, row, column))) in
+    let told : Claimed (cell c.args.zones.now c.args.start c.args.i c.args.j) c.claimed-c.result = c.claimed-c.ensures in
+    above_fits c.args.zones.now c.args.start c.args.i c.args.j most c.requires.broken_by.there c.claimed-c.result told
 
 pub smallest_apart-requires : goal.smallest_apart-requires
 smallest_apart-requires c =
     let few : c.args.plan.variables ≤ 17 =
-        (let a = c.requires.broken_by.apart in
-        plan_few (decode c.args.model.now) a.zone a.step c.args.plan a.drawn.planned c.requires.right_table.right) in
-    let row : c.args.i < 17 =
-        (omega (arith, few, c.requires.broken_by.row)) in
-    let column : c.args.j < 17 =
-        (omega (arith, few, c.requires.broken_by.column)) in
+    (let a = c.requires.broken_by.apart in
+    plan_few (decode c.args.model.now) a.zone a.step c.args.plan a.drawn.planned c.requires.right_table.right) in
+    let row : c.args.i < 17 = omega (arith, few, c.requires.broken_by.row) in
+    let column : c.args.j < 17 = omega (arith, few, c.requires.broken_by.column) in
     let most : cell c.args.zones.now c.args.start c.args.i c.args.j ≤ 64001 =
-        (omega (arith, c.requires.broken_by.cells.small (c.args.i * 17 + c.args.j) (omega (arith, row, column)))) in
-    let told : Claimed (cell c.args.zones.now c.args.start c.args.i c.args.j) c.claimed-c.result =
-        (c.claimed-c.ensures) in
-    let s = c c in
-    let e = above_is s.args.zones.now s.args.start s.args.i s.args.j (most) s.pre.1.there c.claimed-c.result (told) in
-    let q = above_small s.args.zones.now s.args.start s.args.i s.args.j (most) s.pre.1.there c.claimed-c.result (told) in
-    rw e (record { right_table = s.pre.0; i_lt_variables = (s.pre.1.row, s.pre.1.column); size = q; apart_by = s.pre.1.apart })
+    omega (arith, c.requires.broken_by.cells.small (c.args.i * 17 + c.args.j) (omega (arith, row, column))) in
+    let told : Claimed (cell c.args.zones.now c.args.start c.args.i c.args.j) c.claimed-c.result = c.claimed-c.ensures in
+    let e = above_is c.args.zones.now c.args.start c.args.i c.args.j most c.requires.broken_by.there c.claimed-c.result told in
+    let q = above_small c.args.zones.now c.args.start c.args.i c.args.j most c.requires.broken_by.there c.claimed-c.result told in
+    rw e (record { right_table = c.requires.right_table; i_lt_variables = (c.requires.broken_by.row, c.requires.broken_by.column); size = q; apart_by = c.requires.broken_by.apart })
 
 pub returns : goal.returns
 returns c =
     let few : c.args.plan.variables ≤ 17 =
-        (let a = c.requires.broken_by.apart in
-        plan_few (decode c.args.model.now) a.zone a.step c.args.plan a.drawn.planned c.requires.right_table.right) in
-    let row : c.args.i < 17 =
-        (omega (arith, few, c.requires.broken_by.row)) in
-    let column : c.args.j < 17 =
-        (omega (arith, few, c.requires.broken_by.column)) in
+    (let a = c.requires.broken_by.apart in
+    plan_few (decode c.args.model.now) a.zone a.step c.args.plan a.drawn.planned c.requires.right_table.right) in
+    let row : c.args.i < 17 = omega (arith, few, c.requires.broken_by.row) in
+    let column : c.args.j < 17 = omega (arith, few, c.requires.broken_by.column) in
     let most : cell c.args.zones.now c.args.start c.args.i c.args.j ≤ 64001 =
-        (omega (arith, c.requires.broken_by.cells.small (c.args.i * 17 + c.args.j) (omega (arith, row, column)))) in
-    let told : Claimed (cell c.args.zones.now c.args.start c.args.i c.args.j) c.claimed-c.result =
-        (c.claimed-c.ensures) in
-    let s = c.before.before c.before.before in
-    let e = above_is s.args.zones.now s.args.start s.args.i s.args.j (most) s.pre.1.there c.claimed-c.result (told) in
+    omega (arith, c.requires.broken_by.cells.small (c.args.i * 17 + c.args.j) (omega (arith, row, column))) in
+    let told : Claimed (cell c.args.zones.now c.args.start c.args.i c.args.j) c.claimed-c.result = c.claimed-c.ensures in
+    let e = above_is c.args.zones.now c.args.start c.args.i c.args.j most c.requires.broken_by.there c.claimed-c.result told in
     λ z st w. record { fault = refl; state = (rw e at c.smallest_apart.ensures) z st w }

@@ -13,7 +13,7 @@ use Rattle.verdict.proofs.kinds.by_claim.Goals as goal
 pub home_at-requires : goal.home_at-requires
 home_at-requires c =
     let few : c.args.claim ≤ 48 =
-        (claim_few c.args.model.now c.requires.right_table.0 c.args.t c.args.plan c.args.zones.now c.requires.right_table.1 c.args.claim c.requires.right_table.2 c.requires.right_table.3) in
+    (claim_few c.args.model.now c.requires.right_table.0 c.args.t c.args.plan c.args.zones.now c.requires.right_table.1 c.args.claim c.requires.right_table.2 c.requires.right_table.3) in
     (c.requires.right_table.2, few)
 
 pub same_home-requires : goal.same_home-requires
@@ -30,7 +30,7 @@ returns-then-not-same_home c =
 pub bounds_start-start-requires : goal.bounds_start-start-requires
 bounds_start-start-requires c =
     let few : c.args.claim ≤ 48 =
-        (claim_few c.args.model.now c.requires.right_table.0 c.args.t c.args.plan c.args.zones.now c.requires.right_table.1 c.args.claim c.requires.right_table.2 c.requires.right_table.3) in
+    (claim_few c.args.model.now c.requires.right_table.0 c.args.t c.args.plan c.args.zones.now c.requires.right_table.1 c.args.claim c.requires.right_table.2 c.requires.right_table.3) in
     (c.requires.right_table.2, few)
 
 pub first_broken-b-requires : goal.first_broken-b-requires
@@ -43,8 +43,11 @@ pub broken_at-requires : goal.broken_at-requires
 broken_at-requires c =
     let r = c.first_broken-b in
     let b = c.bounds_start-start in
-    record { right_table = c.requires.right_table.0; broken_by = broken_by c.args.model.now c.requires.right_table.0 c.args.t c.args.plan c.args.zones.now c.requires.right_table.1 c.args.claim c.requires.right_table.2 c.requires.right_table.3 b.result b.ensures
-          r.result.found r.result.i r.result.j r.ensures c.requires.drawn_by c.if-b.true }
+    record {
+      right_table = c.requires.right_table.0;
+      broken_by = broken_by c.args.model.now c.requires.right_table.0 c.args.t c.args.plan c.args.zones.now c.requires.right_table.1 c.args.claim c.requires.right_table.2 c.requires.right_table.3 b.result b.ensures
+          r.result.found r.result.i r.result.j r.ensures c.requires.drawn_by c.if-b.true;
+    }
 
 pub returns-then-b : goal.returns-then-b
 returns-then-b c =

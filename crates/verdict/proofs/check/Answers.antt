@@ -1,10 +1,9 @@
 -- `verdict::check` meets its contract: where a table is not one that a text gives, the answer is 13.
-use mathlib.Core.Logic.{⊎_elim}
-use borrow.Author.Rules.{rules}
 use Rattle.model_table.proofs.GivenLaws.{given_table}
 use Rattle.meaning.proofs.Tests.{never}
 use Rattle.verdict.specs.Answers.{unusable, right}
 use Rattle.verdict.proofs.check.Goals as goal
+use Rattle.verdict.proofs.check.Goals.{then-is_model+else-is_proposal, else-is_model}
 
 pub is_proposal-requires : goal.is_proposal-requires
 is_proposal-requires c = given_table _ (c.is_model.ensures.yes c.if-is_model.true)
@@ -21,5 +20,8 @@ returns-then-is_proposal c =
 
 pub returns : goal.returns
 returns c =
-    unusable (λ g. ⊎_elim (λ w. never (w.1.ensures.1 g.proposal) w.2.left) (λ w. c.is_model.ensures.no w.left g.model) c.if-is_model.branch)
+    unusable (λ g. elim c.if-is_model.branch [
+      | then-is_model+else-is_proposal w ↦ never (w.is_proposal.ensures.1 g.proposal) w.if-is_proposal.false
+      | else-is_model w ↦ c.is_model.ensures.no w.if-is_model.false g.model
+    ])
     c.refused.ensures

@@ -1,12 +1,11 @@
 -- Laws of the fault's part: what the two readers answered, and what is shown then.
--- Assumes nothing.
 use Prim.Native.Nat.{ℕ, ◌+◌, ◌-◌, ◌≤◌}
 use mathlib.Core.Path.{◌≡◌, sym, ap, subst}
 use mathlib.Core.List.{List}
 use mathlib.Core.Bool.{true}
 use native.Mathlib.Omega.{arith}
 use lib.ListN.{length, take, drop}
-use borrow.Rule.Slice.PartAt.{sl_part}
+use borrow.Rule.Slice.PartAt.{sl_partˢ}
 use denote.Ref.{Bor}
 use Rattle.meaning.specs.Text.Records.{Answer}
 use Rattle.meaning.specs.Text.ModelTable.{size, decode}
@@ -24,9 +23,9 @@ use Rattle.console.proofs.ReadLaws.{proposal_answer, model_answer}
 use Rattle.console.proofs.PlaceLaws.{model_refusal, proposal_refusal}
 
 -- nothing, at the text's end
-end_shown : (text : Bor (List ℕ)) (n : ℕ)
-    → Shows text (record { place = length text.now; size = 0 }) (sl_part text (length text.now + text.ref_ptr.1) (length text.now) (length text.now) n)
-end_shown text n =
+end_shown : (text : Bor (List ℕ))
+    → Shows text (record { place = length text.now; size = 0 }) (sl_partˢ text (length text.now + text.ref_ptr.1) (length text.now) (length text.now))
+end_shown text =
     let z : length text.now + text.ref_ptr.1 ≡ text.ref_ptr.1 + length text.now = omega arith in
     let d : length text.now - length text.now ≡ 0 = omega arith in
     record { begins = ap (λ (o : ℕ). (text.ref_ptr.0, o)) z; bytes = ap (λ (k : ℕ). take k (drop (length text.now) text.now)) d }
@@ -44,12 +43,12 @@ module _ (b : List ℕ) (text : Bor (List ℕ)) (t t' : List ℕ) (r : Read) (z 
       → Shows text (proposal_part text.now (read_proposal true (decode b) proposal.size text.now)) x
   proposal_fault k p x e h = subst (λ (a : Answer (List ℕ)). Shows text (proposal_part text.now a) x) (sym (answer (Refused k p) e)) h
 
-  pub proposal_none : (n : ℕ) → r ≡ Done
+  pub proposal_none : r ≡ Done
       → Shows text (proposal_part text.now (read_proposal true (decode b) proposal.size text.now))
-      (sl_part text (length text.now + text.ref_ptr.1) (length text.now) (length text.now) n)
-  proposal_none n e =
-      subst (λ (a : Answer (List ℕ)). Shows text (proposal_part text.now a) (sl_part text (length text.now + text.ref_ptr.1) (length text.now) (length text.now) n))
-      (sym (answer Done e)) (end_shown text n)
+      (sl_partˢ text (length text.now + text.ref_ptr.1) (length text.now) (length text.now))
+  proposal_none e =
+      subst (λ (a : Answer (List ℕ)). Shows text (proposal_part text.now a) (sl_partˢ text (length text.now + text.ref_ptr.1) (length text.now) (length text.now)))
+      (sym (answer Done e)) (end_shown text)
 
 -- ---- the model's text
 

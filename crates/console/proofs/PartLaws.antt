@@ -1,5 +1,4 @@
 -- Laws of the fault's part: the next line feed, place by place.
--- Assumes nothing.
 use Prim.Native.Nat.{ℕ, ◌+◌, ◌-◌, ◌≤◌, ◌<◌, suc}
 use mathlib.Core.Path.{◌≡◌, ap}
 use mathlib.Core.List.{List, [], ◌∷◌}
@@ -9,7 +8,7 @@ use lib.ListN.{length, take, drop, get_or, drop_of_length-le}
 use lib.Seq.{drop-cons}
 use borrow.Author.Tests.{eq-eqb, ne_eqb}
 use Rattle.meaning.proofs.Text.Choices.{by_eq}
-use borrow.Rule.Slice.PartAt.{sl_part}
+use borrow.Rule.Slice.PartAt.{sl_partˢ}
 use denote.Ref.{Bor}
 use Rattle.console.specs.Part.{line_length, part_at, Shows}
 
@@ -35,8 +34,8 @@ line_within (b ∷ bs) = by_eq b 10
     (λ n. rw (ne_eqb b 10 n) (omega (arith, line_within bs)))
 
 -- the part from a place to an end
-pub shown : (text : Bor (List ℕ)) (at e n : ℕ) → e ≡ at + line_length (drop at text.now) → Shows text (part_at text.now at) (sl_part text (at + text.ref_ptr.1) at e n)
-shown text at e n h =
+pub shown : (text : Bor (List ℕ)) (at e : ℕ) → e ≡ at + line_length (drop at text.now) → Shows text (part_at text.now at) (sl_partˢ text (at + text.ref_ptr.1) at e)
+shown text at e h =
     let z : at + text.ref_ptr.1 ≡ text.ref_ptr.1 + at = omega arith in
     let d : e - at ≡ line_length (drop at text.now) = omega (arith, h) in
     record { begins = ap (λ (o : ℕ). (text.ref_ptr.0, o)) z; bytes = ap (λ (k : ℕ). take k (drop at text.now)) d }

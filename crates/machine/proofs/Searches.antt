@@ -1,5 +1,4 @@
 -- Laws of a search down a list: the first that passes a test.
--- Assumes nothing.
 use Prim.Native.Nat.{ℕ, zero, suc, ◌+◌, ◌≤◌, ◌<◌}
 use mathlib.Core.Path.{◌≡◌, refl, sym, ◌∙◌, ap, subst}
 use mathlib.Core.Bool.{Bool, true, false, cond}

@@ -1,5 +1,4 @@
 -- Laws of a step's plan: the slots by value, the queue order after the step, and the plan that the two tables make up.
--- Assumes nothing.
 use mathlib.Core.Path.{◌≡◌, refl, sym, ◌∙◌, ap, ap₂, subst}
 use mathlib.Core.Bool.{Bool, true, false, cond}
 use mathlib.Core.List.{List, [], ◌∷◌, tail, Memᴰ}
@@ -30,7 +29,6 @@ use Rattle.home.specs.Asked.{target_if, target_by}
 use Rattle.slots.specs.declared.standing.Slots.{Slots}
 use Rattle.slots.specs.Stands.{no_slot, slot_in, Stand}
 use Rattle.slots.proofs.SlotLaws.{stand_tasks, tasks_insert}
-use Rattle.step_reach.specs.declared.plan.Plan.{Plan}
 use Rattle.step_reach.specs.Plans.{Planned, slots_in, plan_in, Adds, LeadsTo, Keeps}
 use Rattle.step_reach.proofs.VariableLaws.{resets_none}
 

@@ -1,5 +1,4 @@
 -- The tests of a zone's bounds and of its head, cell by cell.
--- Assumes nothing.
 use Prim.Native.Nat.{ℕ, ◌+◌, ◌-◌, ◌*◌, ◌/◌, ◌%◌, ◌≤◌, ◌<◌}
 use mathlib.Core.Path.{◌≡◌, refl, sym, ◌∙◌, ap}
 use mathlib.Core.Bool.{true, ◌&&◌, ◌||◌}

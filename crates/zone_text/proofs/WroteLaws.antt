@@ -1,5 +1,4 @@
 -- What the writer answers, case by case; and that it settles the answer and the buffer.
--- Assumes nothing.
 use Prim.Native.Nat.{ℕ, ◌≤◌, ◌<◌}
 use mathlib.Core.Path.{◌≡◌, refl, sym, ◌∙◌, ap, ap₂}
 use mathlib.Core.Bool.{true}

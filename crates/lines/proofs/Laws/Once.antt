@@ -1,5 +1,4 @@
 -- Any two results that a contract of this crate allows coincide.
--- Assumes nothing.
 use mathlib.Core.Path.{◌≡◌, sym, ◌∙◌}
 use mathlib.Core.List.{List}
 use Prim.Native.Nat.{ℕ}

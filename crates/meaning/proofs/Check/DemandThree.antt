@@ -1,5 +1,4 @@
 -- Demand 3: what an accepted proposal promises of every run.
--- Assumes nothing.
 use mathlib.Core.Path.{◌≡◌, refl, sym, ◌∙◌, subst}
 use mathlib.Core.Bool.{true}
 use mathlib.Core.List.Memᴰ

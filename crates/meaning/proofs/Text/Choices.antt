@@ -1,5 +1,4 @@
 -- Laws of choices and tests: one case after the other.
--- Assumes nothing.
 use Prim.Native.Nat.{◌<◌, ◌≤◌, ℕ}
 use mathlib.Core.Bool.{Bool, ◌&&◌, ◌||◌, false, true}
 use mathlib.Core.Path.{◌≡◌, refl}

@@ -1,5 +1,4 @@
 -- `replay::print_front` is safe.
--- Assumes nothing.
 use mathlib.Core.Path.{sym}
 use native.Mathlib.Omega.{arith}
 use lib.Seq.{length-take-le}

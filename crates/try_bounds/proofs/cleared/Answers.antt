@@ -3,7 +3,6 @@ use native.Mathlib.Omega.{arith}
 use Rattle.try_bounds.proofs.Arrays.{moves, moved, reset_vars, still_offsets, reset_moves, still_sizes}
 use Rattle.try_bounds.proofs.cleared.Goals as goal
 
--- Assumes nothing.
 pub remap-requires : goal.remap-requires
 remap-requires c = record { n_bound = omega arith; entries = c.requires.entries; maps = moves c.args.m 6 6 reset_vars still_offsets c.requires (omega arith) (omega arith) (reset_moves c.args.m c.requires) (still_sizes 6 (omega arith)) }
 

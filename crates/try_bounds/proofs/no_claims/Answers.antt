@@ -4,6 +4,5 @@ use native.Mathlib.Omega.{arith}
 use Rattle.bounds.proofs.Store.{zeros}
 use Rattle.try_bounds.proofs.no_claims.Goals as goal
 
--- Assumes nothing.
 pub returns : goal.returns
 returns c = record { long = omega arith; small = λ q h. omega (arith, zeros 300 (11 + q)) }

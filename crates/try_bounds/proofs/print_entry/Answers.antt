@@ -7,7 +7,6 @@ use mir.Facts.{sfits_lit}
 use Rattle.bounds.proofs.Signed.{signed, rd, at, diff_at, diff_fits, nonneg_make, abs_law}
 use Rattle.try_bounds.proofs.print_entry.Goals as goal
 
--- Assumes nothing.
 zero : SFits w32 (pos 0)
 zero = sfits_lit tt
 

@@ -3,7 +3,6 @@ use Prim.Native.Nat.{◌≤◌, ◌-◌}
 use borrow.Author.Rules.{rules}
 use Rattle.try_bounds.proofs.print_matrix.Given as goal
 
--- Assumes nothing.
 abbrev pub invariant-loop-a : goal.invariant-loop-a
 invariant-loop-a l = l.a ≤ l.n
 

@@ -4,6 +4,5 @@ use native.Mathlib.Omega.{arith}
 use Rattle.try_bounds.proofs.Arrays.{six}
 use Rattle.try_bounds.proofs.tick_offsets.Goals as goal
 
--- Assumes nothing.
 pub returns : goal.returns
 returns c = (refl, six _ (λ k. absurd (omega arith)) (λ k. refl) (λ k. refl) (λ k. refl) (λ k. refl) (λ k. refl))

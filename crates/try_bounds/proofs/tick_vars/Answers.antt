@@ -3,6 +3,5 @@ use mathlib.Core.Path.{refl}
 use Rattle.try_bounds.proofs.Arrays.{six}
 use Rattle.try_bounds.proofs.tick_vars.Goals as goal
 
--- Assumes nothing.
 pub returns : goal.returns
 returns c = six _ refl refl refl refl refl refl

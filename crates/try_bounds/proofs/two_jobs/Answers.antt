@@ -4,7 +4,6 @@ use native.Mathlib.Omega.{arith}
 use Rattle.try_bounds.proofs.Arrays.{nine, listed}
 use Rattle.try_bounds.proofs.two_jobs.Goals as goal
 
--- Assumes nothing.
 pub zone-requires : goal.zone-requires
 zone-requires c = listed _ _ _ _ _ (omega arith) (omega arith) (omega arith) (nine _ (omega arith) (omega arith) (omega arith) (omega arith) (omega arith) (omega arith) (omega arith) (omega arith) (omega arith)) (nine _ (omega arith) (omega arith) (omega arith) (omega arith) (omega arith) (omega arith) (omega arith) (omega arith) (omega arith)) (nine _ (omega arith) (omega arith) (omega arith) (omega arith) (omega arith) (omega arith) (omega arith) (omega arith) (omega arith))
 

@@ -11,7 +11,6 @@ use Rattle.try_bounds.specs.Lists.{Made}
 use Rattle.try_bounds.proofs.Arrays.{limit_fits, made_more}
 use Rattle.try_bounds.proofs.zone.Given as goal
 
--- Assumes nothing.
 abbrev pub invariant-loop-t : goal.invariant-loop-t
 invariant-loop-t l = (l.t ≤ l.k) × Made l.n l.t l.rows l.columns l.limits l.m
 

@@ -5,6 +5,5 @@ use lib.Seq.{length-take-le}
 use borrow.Author.Rules.{rules}
 use Rattle.try_model.proofs.show_front.Goals as goal
 
--- Assumes nothing.
 pub slice_bounds-show-end : goal.slice_bounds-show-end
 slice_bounds-show-end c = sym (length-take-le _ _ (omega arith))

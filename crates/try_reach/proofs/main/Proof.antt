@@ -1,5 +1,4 @@
 -- `zones_run::main` meets its contract.
--- Assumes nothing.
 use Prim.Native.Nat.{◌-◌, ◌≤◌}
 use mathlib.Core.Path.{◌≡◌}
 use lib.ListN.{length}

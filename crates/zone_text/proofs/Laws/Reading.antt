@@ -1,9 +1,8 @@
 -- The reader's loop: what holds before each record, a law for each way out of a turn, and the reader's answer for each case.
--- Assumes nothing.
 use Prim.Native.Nat.{ℕ, ◌*◌, ◌≤◌, ◌<◌}
 use mathlib.Core.Path.{◌≡◌, refl, sym, ap, ◌∙◌, subst}
 use mathlib.Core.Bool.{true, false}
-use mathlib.Core.List.{List, [], ◌∷◌}
+use mathlib.Core.List.{List, []}
 use native.Mathlib.Omega.{arith}
 use lib.ListN.{length, replicate, length-append, length-replicate, get_or-replicate}
 use lib.Seq.{ext_get_or}

@@ -5,7 +5,6 @@ use Prim.Native.Nat.{◌+◌, ◌-◌, ◌*◌, ◌≤◌}
 use Rattle.bounds.proofs.Breaking.{Sound}
 use Rattle.bounds.proofs.broken.first_broken.Given as goal
 
--- Assumes nothing.
 abbrev pub invariant-loop-b : goal.invariant-loop-b
 invariant-loop-b l = (l.b ≤ l.n) × (l.found ≡ false) × (l.i ≡ 0) × (l.j ≡ 0) × Sound l.m l.n l.p l.off l.claims l.start (l.a * 17 + l.b)
 

@@ -9,7 +9,6 @@ use Rattle.bounds.specs.Inner.{Shift}
 use Rattle.bounds.proofs.Grid.{Upto}
 use Rattle.bounds.proofs.image.remap.Given as goal
 
--- Assumes nothing.
 -- what stands at an index that was passed
 abbrev pub Cell : List ℤ → List ℕ → List ℤ → ℕ → ℕ → ℤ → Type 0
 Cell m p off a b z = Shift (at m (var p a) (var p b)) (ent off a) (ent off b) z

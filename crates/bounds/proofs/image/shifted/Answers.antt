@@ -4,7 +4,6 @@ use Rattle.bounds.specs.Matrix.{Finite}
 use Rattle.bounds.proofs.Signed.{signed, at, back, sum_at, sum_fits, diff_at, diff_fits}
 use Rattle.bounds.proofs.image.shifted.Goals as goal
 
--- Assumes nothing.
 -- the test held
 fin : (c : goal.Then-v-lt-NONE) → Finite c.args.v
 fin c = omega (signed, at c.ranges.v)

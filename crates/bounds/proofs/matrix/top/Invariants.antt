@@ -6,7 +6,6 @@ use Rattle.bounds.specs.Matrix.{ent}
 use Rattle.bounds.specs.Inner.{Unknown}
 use Rattle.bounds.proofs.matrix.top.Given as goal
 
--- Assumes nothing.
 abbrev pub invariant-loop-k : goal.invariant-loop-k
 invariant-loop-k l = (l.k ≤ 289) × (length l.r ≡ 289) × ((q : ℕ) → q < l.k → Unknown (q / 17) (q % 17) (ent l.r q))
 

@@ -2,7 +2,6 @@
 use mathlib.Core.Path.{refl}
 use Rattle.bounds.proofs.matrix.top_entry.Goals as goal
 
--- Assumes nothing.
 pub returns-then-a-eq0 : goal.returns-then-a-eq0
 returns-then-a-eq0 c = record { row = λ e. refl; diag = λ e. refl; rest = λ f g. absurd (f c.if-a-eq0.true) }
 

@@ -7,7 +7,6 @@ use Rattle.bounds.specs.Images.{var}
 use Rattle.meaning.specs.Numbers.{over, under}
 use Rattle.bounds.proofs.smallest.least.Given as goal
 
--- Assumes nothing.
 abbrev pub invariant-loop-k : goal.invariant-loop-k
 invariant-loop-k l = (l.k ≤ l.n) × (length l.r ≡ 17) × ((q : ℕ) → q < l.k → var l.r q + over (at l.m 0 q) ≡ under (at l.m 0 q)) × ((q : ℕ) → l.k ≤ q → var l.r q ≡ 0)
 

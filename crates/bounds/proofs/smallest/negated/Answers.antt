@@ -8,7 +8,6 @@ use Rattle.meaning.specs.Numbers.{over, under}
 use Rattle.bounds.proofs.Signed.{signed, rd, at, diff_at, diff_fits, nonneg_make, abs_law}
 use Rattle.bounds.proofs.smallest.negated.Goals as goal
 
--- Assumes nothing.
 zero : SFits w32 (pos 0)
 zero = sfits_lit tt
 

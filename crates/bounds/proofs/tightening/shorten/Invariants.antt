@@ -7,7 +7,6 @@ use Rattle.bounds.specs.Inner.{Via}
 use Rattle.bounds.proofs.Grid.{Upto}
 use Rattle.bounds.proofs.tightening.shorten.Given as goal
 
--- Assumes nothing.
 -- what stands at an index that was passed
 abbrev pub Cell : List ℤ → ℕ → ℕ → ℤ → ℕ → ℕ → ℤ → Type 0
 Cell m i j c a b z = Via (at m a b) (at m a i) c (at m j b) z

@@ -2,7 +2,6 @@
 use Rattle.home.proofs.EdgeLaws.{named_zero, named_by}
 use Rattle.home.proofs.edges.is_edge.Goals as goal
 
--- Assumes nothing.
 pub returns-then-edge-eq0 : goal.returns-then-edge-eq0
 returns-then-edge-eq0 c = named_zero _ c.requires _ c.if-edge-eq0.true
 

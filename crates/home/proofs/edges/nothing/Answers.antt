@@ -2,6 +2,5 @@
 use Rattle.home.proofs.EdgeLaws.{lists_none}
 use Rattle.home.proofs.edges.nothing.Goals as goal
 
--- Assumes nothing.
 pub returns : goal.returns
 returns c = lists_none

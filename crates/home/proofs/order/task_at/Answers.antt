@@ -6,7 +6,6 @@ use lib.ListN.{length}
 use Rattle.home.proofs.OrderLaws.{new_before, new_here, new_after}
 use Rattle.home.proofs.order.task_at.Goals as goal
 
--- Assumes nothing.
 pub offset_bounds-tasks-k : goal.offset_bounds-tasks-k
 offset_bounds-tasks-k c = omega arith
 

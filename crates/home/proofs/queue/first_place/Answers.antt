@@ -3,6 +3,5 @@ use mathlib.Core.Path.{sym}
 use Rattle.meaning.proofs.Hooks.{behind_is}
 use Rattle.home.proofs.queue.first_place.Goals as goal
 
--- Assumes nothing.
 pub returns : goal.returns
 returns c = sym (behind_is _ _ _)

@@ -7,7 +7,6 @@ use Rattle.meaning.specs.Zones.Proper.{fits}
 use Rattle.home.proofs.Walks.{Walk}
 use Rattle.home.proofs.queue.fits.Given as goal
 
--- Assumes nothing.
 abbrev pub invariant-loop-k : goal.invariant-loop-k
 invariant-loop-k l = (length l.tasks ≡ 6) × Walk (fits (decode l.model)) (take l.count l.tasks) 0 l.k
 

@@ -5,6 +5,5 @@ use lib.Dec.{ltb}
 use Rattle.meaning.proofs.Hooks.{overflows_count}
 use Rattle.home.proofs.queue.is_over.Goals as goal
 
--- Assumes nothing.
 pub returns : goal.returns
 returns c o e q = ap (λ (k : ℕ). ltb 0 k) (sym e) ∙ sym (overflows_count _ _ o)

@@ -4,7 +4,6 @@ use lib.ListN.{take}
 use Rattle.home.proofs.QueueLaws.{Met}
 use Rattle.home.proofs.queue.often_in.Given as goal
 
--- Assumes nothing.
 abbrev pub invariant-loop-k : goal.invariant-loop-k
 invariant-loop-k l = (l.r ≤ l.k) × (l.r ≤ l.to) × Met l.task (take l.to l.tasks) l.from l.k l.r
 

@@ -6,7 +6,6 @@ use mathlib.Core.Bool.{Bool, cond}
 use borrow.Author.Tests.{eq-eqb, ne_eqb}
 use Rattle.home.proofs.queue.one_if.Goals as goal
 
--- Assumes nothing.
 pub returns-then-task-other : goal.returns-then-task-other
 returns-then-task-other c = (sym (ap (λ (b : Bool). cond {A = ℕ} b 1 0) (eq-eqb _ _ c.if-task-other.true)), omega arith)
 

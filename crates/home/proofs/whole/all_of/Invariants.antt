@@ -6,7 +6,6 @@ use Rattle.home.specs.ByCell.{all_of}
 use Rattle.home.proofs.Walks.{Walk}
 use Rattle.home.proofs.whole.all_of.Given as goal
 
--- Assumes nothing.
 abbrev pub invariant-loop-k : goal.invariant-loop-k
 invariant-loop-k l = (length l.tasks ≡ 6) × Walk (all_of l.n) (take l.count l.tasks) 0 l.k
 

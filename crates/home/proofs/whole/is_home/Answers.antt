@@ -9,7 +9,6 @@ use Rattle.home.proofs.WholeLaws.{home_cells, home_make}
 use borrow.Author.Rules.{rules}
 use Rattle.home.proofs.whole.is_home.Goals as goal
 
--- Assumes nothing.
 pub returns-then-home-eq0 : goal.returns-then-home-eq0
 returns-then-home-eq0 c = is_not (λ r. let h = r.order.low in omega arith)
 

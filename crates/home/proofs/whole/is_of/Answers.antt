@@ -2,7 +2,6 @@
 use Rattle.home.proofs.WholeLaws.{of_none, of_some}
 use Rattle.home.proofs.whole.is_of.Goals as goal
 
--- Assumes nothing.
 pub returns-then-task-eq0 : goal.returns-then-task-eq0
 returns-then-task-eq0 c = of_none _ _ c.if-task-eq0.true
 

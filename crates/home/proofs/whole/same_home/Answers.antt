@@ -6,7 +6,6 @@ use Rattle.home.proofs.WholeLaws.{other_location, other_count, one_home}
 use borrow.Author.Rules.{rules}
 use Rattle.home.proofs.whole.same_home.Goals as goal
 
--- Assumes nothing.
 pub returns-then-a-b : goal.returns-then-a-b
 returns-then-a-b c = let a = c.args in is_not (other_location a.a a.b c.if-a-b.true)
 

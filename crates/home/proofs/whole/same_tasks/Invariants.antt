@@ -4,7 +4,6 @@ use Prim.Native.Nat.{◌-◌, ◌≤◌}
 use lib.ListN.{length, take}
 use Rattle.home.proofs.whole.same_tasks.Given as goal
 
--- Assumes nothing.
 abbrev pub invariant-loop-k : goal.invariant-loop-k
 invariant-loop-k l = (l.k ≤ l.count) × (length l.a ≡ 6) × (length l.b ≡ 6) × (take l.k l.a ≡ take l.k l.b)
 

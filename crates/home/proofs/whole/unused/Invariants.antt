@@ -6,7 +6,6 @@ use Rattle.home.specs.ByCell.{all_zero}
 use Rattle.home.proofs.Walks.{Walk}
 use Rattle.home.proofs.whole.unused.Given as goal
 
--- Assumes nothing.
 abbrev pub invariant-loop-k : goal.invariant-loop-k
 invariant-loop-k l = (length l.tasks ≡ 6) × Walk all_zero l.tasks l.count l.k
 

@@ -4,7 +4,6 @@ use Rattle.meaning.specs.Text.Lines.{outside}
 use Rattle.lines.specs.Meant.{first_out}
 use Rattle.lines.proofs.fields.first_out.Goals as goal
 
--- Assumes nothing.
 pub returns-then-v-low : goal.returns-then-v-low
 unfolding first_out outside
 returns-then-v-low c = rw (eq-eqb _ 0 c.if-o-eq0.true, lt-ltb _ _ c.if-v-low.true)

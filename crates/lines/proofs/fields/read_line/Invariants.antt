@@ -3,7 +3,6 @@ use Prim.Native.Nat.{◌-◌}
 use Rattle.lines.proofs.Laws.Reading.{Reading}
 use Rattle.lines.proofs.fields.read_line.Given as goal
 
--- Assumes nothing.
 abbrev pub invariant-loop-k : goal.invariant-loop-k
 invariant-loop-k l = Reading l.s l.at l.below l.low l.high l.n l.numbers l.k l.p l.o
 

@@ -3,7 +3,6 @@ use borrow.Author.Tests.{le-leb, lt-leb}
 use Rattle.meaning.specs.Text.Numerals.{is_digit}
 use Rattle.lines.proofs.numerals.is_digit.Goals as goal
 
--- Assumes nothing.
 pub returns-then-b-ge48 : goal.returns-then-b-ge48
 unfolding is_digit
 returns-then-b-ge48 c = simp (le-leb _ _ c.if-b-ge48.true)

@@ -5,7 +5,6 @@ use lib.ListN.{length, drop}
 use Rattle.meaning.specs.Text.Numerals.{too_large, digits}
 use Rattle.lines.proofs.numerals.read_digits.Given as goal
 
--- Assumes nothing.
 abbrev pub invariant-loop-i : goal.invariant-loop-i
 invariant-loop-i l = (l.v ≤ too_large) × (digits (drop l.i l.s) l.i l.v ≡ digits (drop l.at l.s) l.at 0)
 

@@ -7,7 +7,6 @@ use mathlib.Core.Path.{sym, ap, ◌∙◌}
 use Rattle.meaning.proofs.Text.NumeralLaws.{number_end, number_zero, number_plain, number_sign, number_minus}
 use Rattle.lines.proofs.numerals.read_number.Goals as goal
 
--- Assumes nothing.
 pub returns-then-s-at : goal.returns-then-s-at
 returns-then-s-at c =
     let a = c.args in

@@ -4,7 +4,6 @@ use mathlib.Core.Path.{sym, ◌∙◌}
 use Rattle.meaning.proofs.Text.NumeralLaws.{positive_end, positive_low, positive_high, positive_ok}
 use Rattle.lines.proofs.numerals.read_positive.Goals as goal
 
--- Assumes nothing.
 pub returns-then-s-at : goal.returns-then-s-at
 returns-then-s-at c =
     let a = c.args in

@@ -5,7 +5,6 @@ use lib.ListN.{length, drop}
 use Rattle.meaning.specs.Text.Records.{first_stop}
 use Rattle.lines.proofs.stops.first_stop.Given as goal
 
--- Assumes nothing.
 abbrev pub invariant-loop-i : goal.invariant-loop-i
 invariant-loop-i l = l.i + first_stop (drop l.i l.s) ≡ first_stop l.s
 

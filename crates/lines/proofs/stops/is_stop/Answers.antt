@@ -3,7 +3,6 @@ use borrow.Author.Tests.{eq-eqb, ne_eqb}
 use Rattle.meaning.specs.Text.Records.{is_stop}
 use Rattle.lines.proofs.stops.is_stop.Goals as goal
 
--- Assumes nothing.
 pub returns-then-b-eq44 : goal.returns-then-b-eq44
 unfolding is_stop
 returns-then-b-eq44 c = rw (eq-eqb _ 44 c.if-b-eq44.true)

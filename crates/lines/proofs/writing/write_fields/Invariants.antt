@@ -6,7 +6,6 @@ use Rattle.lines.specs.Put.{Put}
 use Rattle.lines.proofs.Laws.Putting.{front}
 use Rattle.lines.proofs.writing.write_fields.Given as goal
 
--- Assumes nothing.
 abbrev pub invariant-loop-k : goal.invariant-loop-k
 invariant-loop-k l = (l.k ≤ l.n) × (length l.buf ≡ length l.initial.buf) × Put l.initial.buf l.at (front l.below l.numbers l.k) l.buf l.p
 

@@ -6,7 +6,6 @@ use Rattle.lines.proofs.Laws.Putting.{put_cons}
 use Rattle.meaning.proofs.Text.WriteLaws.{num_text_minus, num_text_plain}
 use Rattle.lines.proofs.writing.write_number.Goals as goal
 
--- Assumes nothing.
 pub bounds-buf-at : goal.bounds-buf-at
 bounds-buf-at c =
     let a = c.args in

@@ -6,7 +6,6 @@ use lib.ListN.{length, take}
 use Rattle.machine.proofs.Searches.{Sought}
 use Rattle.machine.proofs.listed.ahead.Given as goal
 
--- Assumes nothing.
 abbrev pub invariant-loop-k : goal.invariant-loop-k
 invariant-loop-k l = (length l.beaten ≡ 6) × Sought (λ (b : Bool). b) false (take l.count l.beaten) l.from l.k
 

@@ -8,7 +8,6 @@ use Rattle.machine.proofs.Searches.{Sought}
 use Rattle.machine.proofs.QueueLaws.{none_there}
 use Rattle.machine.proofs.queue.place_among.Given as goal
 
--- Assumes nothing.
 abbrev pub invariant-loop-k : goal.invariant-loop-k
 invariant-loop-k l = Sought (beats (decode l.model) l.task) none_there (queue_of l.jobs l.count) (behind (decode l.model) l.task (order (queue_of l.jobs l.count))) l.k
 

@@ -7,7 +7,6 @@ use Rattle.machine.specs.Stands.{queue_of}
 use Rattle.machine.proofs.ReleaseLaws.{PutUpto}
 use Rattle.machine.proofs.queue.put_all.Given as goal
 
--- Assumes nothing.
 abbrev pub invariant-loop-k : goal.invariant-loop-k
 invariant-loop-k l = (length l.new ≡ 4) × (length l.initial.r ≡ 6) × (l.k ≤ l.n) × PutUpto (decode l.model) l.new (queue_of l.initial.r l.count) l.r l.k
 

@@ -6,7 +6,6 @@ use Rattle.machine.specs.Stands.{no_job}
 use Rattle.machine.proofs.Arrays.{Filled}
 use Rattle.machine.proofs.queue.tasks_of.Given as goal
 
--- Assumes nothing.
 abbrev pub invariant-loop-k : goal.invariant-loop-k
 invariant-loop-k l = (length l.jobs ≡ 6) × Filled 0 6 (λ (i : ℕ). (get_or l.jobs i no_job).task) l.r l.k
 

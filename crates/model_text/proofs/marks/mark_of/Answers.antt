@@ -5,7 +5,6 @@ use Rattle.model_text.specs.Numbered.{mark_no}
 use Rattle.model_text.proofs.Laws.Marks.{mark_here, mark_none}
 use Rattle.model_text.proofs.marks.mark_of.Goals as goal
 
--- Assumes nothing.
 pub returns-in-20559 : goal.returns-in-20559
 unfolding mark_no form
 returns-in-20559 c a b h e = sym (mark_here a b _ h e po c.in-20559.is)

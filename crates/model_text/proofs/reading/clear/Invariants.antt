@@ -5,7 +5,6 @@ use lib.ListN.{length}
 use Rattle.model_text.proofs.Laws.Clearing.{cleared}
 use Rattle.model_text.proofs.reading.clear.Given as goal
 
--- Assumes nothing.
 abbrev pub invariant-loop-i : goal.invariant-loop-i
 invariant-loop-i l = (l.i ≤ length l.initial.t) × (length l.t ≡ length l.initial.t) × (l.t ≡ cleared l.initial.t l.i)
 

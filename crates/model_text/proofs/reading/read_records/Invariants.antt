@@ -4,7 +4,6 @@ use lib.ListN.{length}
 use Rattle.meaning.proofs.Text.ModelLoop.{Reading}
 use Rattle.model_text.proofs.reading.read_records.Given as goal
 
--- Assumes nothing.
 abbrev pub invariant-loop-next : goal.invariant-loop-next
 invariant-loop-next l = Reading l.s l.at l.i l.t
 

@@ -4,7 +4,6 @@ use Rattle.model_text.specs.Numbered.{mark_no}
 use Rattle.model_text.proofs.Laws.Slots.{is_eight}
 use Rattle.model_text.proofs.record_text.first_byte.Goals as goal
 
--- Assumes nothing.
 pub returns-in-1 : goal.returns-in-1
 unfolding mark_no form
 returns-in-1 c = rw c.in-1.is

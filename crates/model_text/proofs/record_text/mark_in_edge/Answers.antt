@@ -6,7 +6,6 @@ use Rattle.model_text.specs.Numbered.{mark_no}
 use Rattle.model_text.proofs.Laws.Slots.{two_on}
 use Rattle.model_text.proofs.record_text.mark_in_edge.Goals as goal
 
--- Assumes nothing.
 pub returns-then-r-eq0 : goal.returns-then-r-eq0
 unfolding mark_no mark_in_edge
 returns-then-r-eq0 c = (rw (eq-eqb _ 0 c.if-r-eq0.true), omega arith, λ e. omega arith, λ e. absurd (omega arith))

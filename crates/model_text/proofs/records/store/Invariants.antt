@@ -7,7 +7,6 @@ use lib.Seq.{sets}
 use Rattle.lines.specs.Put.{firsts}
 use Rattle.model_text.proofs.records.store.Given as goal
 
--- Assumes nothing.
 abbrev pub invariant-loop-i : goal.invariant-loop-i
 invariant-loop-i l = (l.k ≤ l.i) × (l.i ≤ l.n) × (l.p ≡ l.j + (l.i - l.k)) × (length l.t ≡ length l.initial.t) × (l.t ≡ sets l.initial.t l.j (map suc (firsts l.v l.k (l.i - l.k))))
 

@@ -5,7 +5,6 @@ use Rattle.meaning.specs.Text.ModelText.{form}
 use Rattle.model_text.proofs.Laws.Numbering.{keys_else}
 use Rattle.model_text.proofs.rules.keys.Goals as goal
 
--- Assumes nothing.
 pub returns-in-5 : goal.returns-in-5
 unfolding mark_no form
 returns-in-5 c = rw c.in-5.is

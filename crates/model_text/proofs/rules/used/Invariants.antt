@@ -5,7 +5,6 @@ use mathlib.Core.Bool.{false}
 use Rattle.meaning.specs.Text.ModelReader.{used}
 use Rattle.model_text.proofs.rules.used.Given as goal
 
--- Assumes nothing.
 abbrev pub invariant-loop-k : goal.invariant-loop-k
 invariant-loop-k l = (l.k ≤ 6) × (used l.t l.p l.k ≡ false)
 

@@ -4,7 +4,6 @@ use borrow.Author.Tests.{lt-ltb, le-ltb}
 use Rattle.meaning.specs.Text.ModelReader.{rule}
 use Rattle.model_text.proofs.rules.wrong_task.Goals as goal
 
--- Assumes nothing.
 pub returns-then-d-c : goal.returns-then-d-c
 unfolding rule
 returns-then-d-c c = rw (lt-ltb _ _ c.if-d-c.true)

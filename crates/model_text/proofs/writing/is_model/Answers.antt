@@ -2,7 +2,6 @@
 use Rattle.model_text.proofs.Laws.Giving.{not_given, not_given_size, is_given_lem}
 use Rattle.model_text.proofs.writing.is_model.Goals as goal
 
--- Assumes nothing.
 pub returns-then-table-ne-SIZE : goal.returns-then-table-ne-SIZE
 returns-then-table-ne-SIZE c = not_given_size c.args.table.now c.if-table-ne-SIZE.true
 

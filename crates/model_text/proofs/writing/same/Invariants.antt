@@ -5,7 +5,6 @@ use lib.ListN.{length, drop}
 use Rattle.meaning.specs.Lists.{same_list}
 use Rattle.model_text.proofs.writing.same.Given as goal
 
--- Assumes nothing.
 abbrev pub invariant-loop-k : goal.invariant-loop-k
 invariant-loop-k l = (l.k ≤ length l.t) × (same_list (drop l.k l.t) (drop l.k l.u) ≡ same_list l.t l.u)
 

@@ -3,7 +3,6 @@ use native.Mathlib.Omega.{arith}
 use Rattle.model_text.proofs.Laws.Giving.{wrote_size, wrote_none, wrote_short, wrote_text}
 use Rattle.model_text.proofs.writing.write_model.Goals as goal
 
--- Assumes nothing.
 pub returns-then-table-ne-SIZE : goal.returns-then-table-ne-SIZE
 returns-then-table-ne-SIZE c = let a = c.args in wrote_size a.table.now a.buffer.now c.if-table-ne-SIZE.true
 

@@ -8,7 +8,6 @@ use Rattle.meaning.specs.Text.ModelReader.{format}
 use Rattle.lines.specs.Put.{Put}
 use Rattle.model_text.proofs.writing.write_table.Given as goal
 
--- Assumes nothing.
 abbrev pub invariant-loop-j : goal.invariant-loop-j
 invariant-loop-j l = (l.j ≤ size) × (length l.buf ≡ length l.initial.buf) × Put l.initial.buf 0 (lines_to format l.t l.j) l.buf l.at
 

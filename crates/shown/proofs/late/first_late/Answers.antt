@@ -1,6 +1,6 @@
 -- `shown::late::first_late` meets its contract: at every position before k each age stays below D.
 use mathlib.Core.Path.{◌≡◌, sym}
-use Prim.Native.Nat.{ℕ, suc, ◌+◌, ◌-◌, ◌≤◌, ◌<◌}
+use Prim.Native.Nat.{suc, ◌+◌, ◌≤◌}
 use native.Mathlib.Omega.{arith}
 use borrow.Author.Rules.{rules}
 use lib.IntN.{pos}
@@ -13,7 +13,7 @@ use Rattle.model_table.proofs.PartLaws.{deadline_small}
 use Rattle.bounds.proofs.Signed as S
 use Rattle.bounds.proofs.Signed.{signed, fits_make}
 use Rattle.zone_bounds.proofs.LoopLaws.{clocks_small}
-use Rattle.shown.proofs.LateLaws.{Age, OnTime, on_time_next, age_asks, first_here, none_late}
+use Rattle.shown.proofs.LateLaws.{Age, on_time_next, age_asks, first_here, none_late}
 use Rattle.shown.proofs.late.first_late.Goals as goal
 
 pub clocks-n-requires : goal.clocks-n-requires

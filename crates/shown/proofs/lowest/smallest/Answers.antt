@@ -4,7 +4,6 @@ use Rattle.meaning.specs.Text.ModelTable.{decode}
 use Rattle.shown.proofs.LowestLaws.{drawn_ready, lowest, lowest_shown}
 use Rattle.shown.proofs.lowest.smallest.Goals as goal
 
--- Assumes nothing.
 pub least-x-requires : goal.least-x-requires
 least-x-requires c =
     let d = c.requires.drawn_by in

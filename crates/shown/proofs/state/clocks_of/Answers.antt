@@ -1,11 +1,8 @@
 -- `shown::state::clocks_of` meets its contract.
 use mathlib.Core.Path.{refl}
-use Prim.Native.Nat.{ℕ, ◌+◌, ◌-◌}
 use native.Mathlib.Omega.{arith}
-use borrow.Author.Rules.{rules}
-use Rattle.bounds.specs.Images.{var}
 use Rattle.bounds.proofs.Store.{zeros}
-use Rattle.shown.proofs.StateLaws.{Begun, begun_start, begun_more, clocks_end}
+use Rattle.shown.proofs.StateLaws.{begun_start, begun_more, clocks_end}
 use Rattle.shown.proofs.state.clocks_of.Goals as goal
 
 pub loop-k-init : goal.loop-k-init

@@ -2,7 +2,6 @@
 use mathlib.Core.Path.{◌≡◌, ap}
 use Prim.Native.Nat.{suc, ◌+◌, ◌-◌, ◌<◌}
 use native.Mathlib.Omega.{arith}
-use borrow.Author.Rules.{rules}
 use Rattle.meaning.specs.Inner.Slots.{sum_ahead}
 use Rattle.bounds.specs.Images.{var}
 use Rattle.zone_bounds.proofs.LoopLaws.{ahead_below}

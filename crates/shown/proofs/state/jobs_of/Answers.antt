@@ -1,12 +1,9 @@
 -- `shown::state::jobs_of` meets its contract.
 use mathlib.Core.Path.{refl}
-use Prim.Native.Nat.{ℕ, ◌-◌}
 use native.Mathlib.Omega.{arith}
 use borrow.Author.Rules.{rules}
-use lib.ListN.{get_or}
 use Rattle.machine.specs.Stands.{no_job}
-use Rattle.shown.specs.Moving.{cell_at}
-use Rattle.shown.proofs.StateLaws.{Begun, begun_start, begun_more, no_jobs, jobs_end}
+use Rattle.shown.proofs.StateLaws.{begun_start, begun_more, no_jobs, jobs_end}
 use Rattle.shown.proofs.state.jobs_of.Goals as goal
 
 pub loop-k-init : goal.loop-k-init

@@ -1,9 +1,9 @@
 -- `shown::state::moved` meets its contract.
 use mathlib.Core.Path.{◌≡◌, ◌∙◌}
-use Prim.Native.Nat.{ℕ, ◌+◌, ◌-◌, ◌≤◌, ◌<◌}
+use Prim.Native.Nat.{◌+◌}
 use native.Mathlib.Omega.{arith}
 use borrow.Author.Rules.{rules}
-use lib.ListN.{length, length-set}
+use lib.ListN.{length-set}
 use Rattle.meaning.specs.Numbers.{over, under}
 use Rattle.bounds.specs.Matrix.{ent}
 use Rattle.bounds.specs.Images.{var}

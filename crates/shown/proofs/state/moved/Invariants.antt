@@ -1,18 +1,12 @@
 -- What the loops of `moved` keep, and how they end.
-use mathlib.Core.Path.{◌≡◌, ◌∙◌}
+use mathlib.Core.Path.{◌≡◌}
 use Prim.Native.Nat.{ℕ, ◌+◌, ◌-◌, ◌≤◌, ◌<◌}
-use native.Mathlib.Omega.{arith}
-use borrow.Author.Rules.{rules}
-use lib.ListN.{length, length-set}
+use lib.ListN.{length}
 use Rattle.meaning.specs.Numbers.{over, under}
 use Rattle.bounds.specs.Matrix.{ent}
 use Rattle.bounds.specs.Images.{var}
-use Rattle.bounds.proofs.Signed.{back}
-use Rattle.bounds.proofs.Store.{stored_n}
-use Rattle.shown.proofs.SumLaws.{small_fits}
 use Rattle.shown.proofs.state.moved.Given as goal
 
--- Assumes nothing.
 abbrev pub invariant-loop-i : goal.invariant-loop-i
 invariant-loop-i l =
     (l.i ≤ l.n) × (length l.r ≡ 17) × ((q : ℕ) → q < l.i → var l.r q + under (ent l.off q) ≡ var l.x (var l.from q) + over (ent l.off q))

@@ -1,6 +1,5 @@
 -- `shown::state::moved_value` meets its contract.
 use native.Mathlib.Omega.{arith}
-use borrow.Author.Rules.{rules}
 use lib.IntN.{◌+ℤ◌}
 use mir.Syntax.{w32}
 use mir.Val.{to_z}

@@ -13,7 +13,6 @@ use Rattle.step_bounds.proofs.RangeLaws.{right_ranged}
 use Rattle.shown.proofs.StateLaws.{movable, rising, state_is}
 use Rattle.shown.proofs.state.shown_state.Goals as goal
 
--- Assumes nothing.
 pub clocks-n-requires : goal.clocks-n-requires
 clocks-n-requires c = tt
 

@@ -3,7 +3,6 @@ use Prim.Native.Nat.{◌-◌, ◌≤◌}
 use Rattle.slots.proofs.SlotLaws.{Came}
 use Rattle.slots.proofs.change.slots_with.Given as goal
 
--- Assumes nothing.
 abbrev pub invariant-loop-k : goal.invariant-loop-k
 invariant-loop-k l = (l.k ≤ l.n) × Came l.new l.ahead l.k l.initial.slots l.slots
 

@@ -6,7 +6,6 @@ use Rattle.meaning.specs.Text.ModelTable.{decode}
 use Rattle.slots.proofs.SlotLaws.{sum_from, age_from, Filled}
 use Rattle.slots.proofs.standing.slots_of.Given as goal
 
--- Assumes nothing.
 abbrev pub invariant-loop-k : goal.invariant-loop-k
 invariant-loop-k l =
     (l.k ≤ l.count) × (l.count ≤ 6) × (l.clocks ≡ (decode l.model).clocks) × (l.clocks ≤ 4)

@@ -7,7 +7,6 @@ use lib.ListN.{get_or}
 use Rattle.slots.specs.Stands.{sum_before}
 use Rattle.slots.proofs.variables.sum_before.Goals as goal
 
--- Assumes nothing.
 -- the cell ahead
 before-is : (l : List ℕ) (k : ℕ) → 1 ≤ k → get_or l (k - 1) 0 ≡ sum_before l k
 before-is l zero h = absurd (omega arith)

@@ -6,7 +6,6 @@ use lib.ListN.{length}
 use Rattle.home.proofs.OrderLaws.{new_before, new_here, new_after}
 use Rattle.slots.proofs.variables.variable_at.Goals as goal
 
--- Assumes nothing.
 pub offset_bounds-variables-k : goal.offset_bounds-variables-k
 offset_bounds-variables-k c = omega arith
 

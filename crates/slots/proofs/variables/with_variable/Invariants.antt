@@ -5,7 +5,6 @@ use lib.ListN.{length, get_or, take}
 use Rattle.meaning.specs.Lists.{insert_at}
 use Rattle.slots.proofs.variables.with_variable.Given as goal
 
--- Assumes nothing.
 abbrev pub invariant-loop-k : goal.invariant-loop-k
 invariant-loop-k l =
     (l.k ≤ suc l.count) × (length l.r ≡ 6) × ((q : ℕ) → q < l.k → get_or l.r q 0 ≡ get_or (insert_at l.ahead l.new (take l.count l.variables)) q 0) × ((q : ℕ) → l.k ≤ q → get_or l.r q 0 ≡ 0)

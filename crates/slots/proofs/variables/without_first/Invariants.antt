@@ -4,7 +4,6 @@ use Prim.Native.Nat.{ℕ, suc, ◌-◌, ◌<◌, ◌≤◌}
 use lib.ListN.{length, get_or}
 use Rattle.slots.proofs.variables.without_first.Given as goal
 
--- Assumes nothing.
 abbrev pub invariant-loop-k : goal.invariant-loop-k
 invariant-loop-k l =
     (l.k ≤ 5) × (length l.r ≡ 6) × ((q : ℕ) → q < l.k → get_or l.r q 0 ≡ get_or l.variables (suc q) 0) × ((q : ℕ) → l.k ≤ q → get_or l.r q 0 ≡ 0)

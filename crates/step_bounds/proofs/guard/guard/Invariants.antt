@@ -4,7 +4,6 @@ use Rattle.zone_bounds.specs.Narrowed.{Narrows}
 use Rattle.step_bounds.proofs.TableLaws.{guard_to}
 use Rattle.step_bounds.proofs.guard.guard.Given as goal
 
--- Assumes nothing.
 abbrev pub invariant-loop-x : goal.invariant-loop-x
 invariant-loop-x l = (l.x ≤ 25) × Narrows (guard_to l.model l.edge l.x) l.initial.r l.r
 

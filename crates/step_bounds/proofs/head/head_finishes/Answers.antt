@@ -12,7 +12,6 @@ use Rattle.step_bounds.proofs.HeadLaws.{finish_none, finish_head}
 use borrow.Author.Rules.{rules}
 use Rattle.step_bounds.proofs.head.head_finishes.Goals as goal
 
--- Assumes nothing.
 pub narrow-requires : goal.narrow-requires
 narrow-requires c = record { i_bound = (omega arith, omega arith); size = record { high = omega arith; low = omega arith }; workable = c.requires.workable }
 

@@ -13,7 +13,6 @@ use Rattle.zone_bounds.proofs.NarrowLaws.{narrows_no}
 use borrow.Author.Rules.{rules}
 use Rattle.step_bounds.proofs.head.head_goes_on.Goals as goal
 
--- Assumes nothing.
 pub returns-then-home-eq0 : goal.returns-then-home-eq0
 returns-then-home-eq0 c = on_none (decode c.args.model.now) c.args.home.count c.args.home.tasks c.args.t c.args.t c.if-home-eq0.true (narrows_no c.args.t c.requires.workable)
 

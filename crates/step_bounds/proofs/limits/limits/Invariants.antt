@@ -5,7 +5,6 @@ use Rattle.zone_bounds.specs.Narrowed.{Narrows}
 use Rattle.step_bounds.proofs.TableLaws.{limits_to}
 use Rattle.step_bounds.proofs.limits.limits.Given as goal
 
--- Assumes nothing.
 abbrev pub invariant-loop-x : goal.invariant-loop-x
 invariant-loop-x l = (l.x ≤ 4) × Narrows (limit_bounds (limits_to l.model l.location l.x)) l.initial.r l.r
 

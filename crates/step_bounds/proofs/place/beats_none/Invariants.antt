@@ -9,7 +9,6 @@ use Rattle.zone_bounds.specs.Narrowed.{Narrows}
 use Rattle.step_bounds.specs.Places.{staying}
 use Rattle.step_bounds.proofs.place.beats_none.Given as goal
 
--- Assumes nothing.
 abbrev pub invariant-loop-k : goal.invariant-loop-k
 invariant-loop-k l =
     (l.first ≤ l.k) × (l.k ≤ l.at) × ((ss : List Slot) → Stand ss l.slots → Narrows (staying (test_at (decode l.model) l.task) l.first l.k ss) l.initial.r l.r)

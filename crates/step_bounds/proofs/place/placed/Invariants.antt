@@ -8,7 +8,6 @@ use Rattle.home.specs.Stands.{order_of, tasks_of}
 use Rattle.zone_bounds.specs.Narrowed.{Narrows}
 use Rattle.step_bounds.proofs.place.placed.Given as goal
 
--- Assumes nothing.
 abbrev pub invariant-loop-k : goal.invariant-loop-k
 invariant-loop-k l =
     (l.k ≤ l.n) × Narrows (position_bounds (decode l.model) (take l.k (tasks_of l.releases)) (take l.k l.ahead) (slots_of (decode l.model) (order_of l.home))) l.initial.r l.r

@@ -14,19 +14,19 @@ use Rattle.step_reach.proofs.plan.entered.Goals as goal
 pub slots_with-jobs-requires : goal.slots_with-jobs-requires
 slots_with-jobs-requires c =
     let entering : Entering c.args.model.now c.args.home c.args.step c.args.edge c.released_by-releases.result c.ahead_of.result =
-        (record {
-          table = c.requires.right_table;
-          home = c.requires.right_home;
-          listed = c.requires.listed;
-          kind = c.requires.kind_value;
-          fits = c.requires.step_value;
-          releases = c.released_by-releases.ensures;
-          places = c.ahead_of.ensures;
-          queue_long = search rules;
-          releases_long = search rules;
-          ahead_long = search rules;
-          positions_long = search rules;
-        }) in
+    (record {
+      table = c.requires.right_table;
+      home = c.requires.right_home;
+      listed = c.requires.listed;
+      kind = c.requires.kind_value;
+      fits = c.requires.step_value;
+      releases = c.released_by-releases.ensures;
+      places = c.ahead_of.ensures;
+      queue_long = search rules;
+      releases_long = search rules;
+      ahead_long = search rules;
+      positions_long = search rules;
+    }) in
     let r = c.released_by-releases.result in
     let a = c.ahead_of.result in
     let w = entering in
@@ -42,19 +42,19 @@ laid-requires c =
 pub returns : goal.returns
 returns c =
     let entering : Entering c.args.model.now c.args.home c.args.step c.args.edge c.released_by-releases.result c.ahead_of.result =
-        (record {
-          table = c.requires.right_table;
-          home = c.requires.right_home;
-          listed = c.requires.listed;
-          kind = c.requires.kind_value;
-          fits = c.requires.step_value;
-          releases = c.released_by-releases.ensures;
-          places = c.ahead_of.ensures;
-          queue_long = search rules;
-          releases_long = search rules;
-          ahead_long = search rules;
-          positions_long = search rules;
-        }) in
+    (record {
+      table = c.requires.right_table;
+      home = c.requires.right_home;
+      listed = c.requires.listed;
+      kind = c.requires.kind_value;
+      fits = c.requires.step_value;
+      releases = c.released_by-releases.ensures;
+      places = c.ahead_of.ensures;
+      queue_long = search rules;
+      releases_long = search rules;
+      ahead_long = search rules;
+      positions_long = search rules;
+    }) in
     let r = c.released_by-releases.result in
     c.laid.ensures (home_of c.args.home) (step_of c.args.step)
     (entering_leads c.args.model.now c.args.home c.args.step c.args.edge r c.ahead_of.result (entering) c.slots_with-jobs.result

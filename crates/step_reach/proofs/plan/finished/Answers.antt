@@ -9,7 +9,6 @@ use Rattle.meaning.specs.Zones.Steps as S
 use Rattle.home.specs.Stands.{order_of, home_of}
 use Rattle.zone_bounds.proofs.NumberLaws.{read}
 use Rattle.step_reach.proofs.PlanLaws.{stand_own, finish_leads}
-use borrow.Author.Rules.{rules}
 use Rattle.step_reach.proofs.plan.finished.Goals as goal
 
 pub laid-requires : goal.laid-requires

@@ -6,7 +6,6 @@ use Rattle.meaning.specs.Inner.Slots.{slots_of}
 use Rattle.meaning.specs.Text.ModelTable.{decode}
 use Rattle.home.specs.Stands.{order_of, home_of}
 use Rattle.step_reach.proofs.PlanLaws.{stand_own, keeps_leads}
-use borrow.Author.Rules.{rules}
 use Rattle.step_reach.proofs.plan.kept.Goals as goal
 
 pub laid-requires : goal.laid-requires

@@ -17,23 +17,23 @@ six c = search rules
 pub all_from-from-requires : goal.all_from-from-requires
 all_from-from-requires c =
     let clocks : c.clocks-clocks.result ≡ (decode c.args.model.now).clocks =
-        (c.clocks-clocks.ensures ∙ clocks_is c.args.model.now c.requires.right_table) in
+    (c.clocks-clocks.ensures ∙ clocks_is c.args.model.now c.requires.right_table) in
     let few : c.clocks-clocks.result ≤ 4 =
-        (omega (arith, clocks, c.requires.right_table.right.clocks)) in
+    (omega (arith, clocks, c.requires.right_table.right.clocks)) in
     (clocks, few, c.requires.stand.few, omega (arith, clocks, c.variables-variables.ensures.0))
 
 pub all_added-off-requires : goal.all_added-off-requires
 all_added-off-requires c =
     let clocks : c.clocks-clocks.result ≡ (decode c.args.model.now).clocks =
-        (c.clocks-clocks.ensures ∙ clocks_is c.args.model.now c.requires.right_table) in
+    (c.clocks-clocks.ensures ∙ clocks_is c.args.model.now c.requires.right_table) in
     let few : c.clocks-clocks.result ≤ 4 =
-        (omega (arith, clocks, c.requires.right_table.right.clocks)) in
+    (omega (arith, clocks, c.requires.right_table.right.clocks)) in
     (few, c.variables-variables.ensures.1)
 
 pub returns : goal.returns
 returns c h st w =
     let clocks : c.clocks-clocks.result ≡ (decode c.args.model.now).clocks =
-        (c.clocks-clocks.ensures ∙ clocks_is c.args.model.now c.requires.right_table) in
+    (c.clocks-clocks.ensures ∙ clocks_is c.args.model.now c.requires.right_table) in
     let t = c.args.model.now in
     let v = c.variables-variables.ensures.0 in
     planned t h st c.args.location c.args.edge c.args.slots c.args.time c.args.sum w c.requires.stand (six c)

@@ -9,7 +9,6 @@ use Rattle.zone_list.specs.declared.form.Kind.TheVariants.{GoOn, Finish}
 use Rattle.zone_list.specs.Steps.{ahead_of, step_by, step_of}
 use Rattle.step_reach.specs.Plans.{Planned, Keeps}
 use Rattle.step_reach.proofs.PlanLaws.{on_keeps, over_keeps}
-use borrow.Author.Rules.{rules}
 use Rattle.step_reach.proofs.plan.plan_of.Goals as goal
 
 pub returns-then-overflows : goal.returns-then-overflows

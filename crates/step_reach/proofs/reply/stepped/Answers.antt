@@ -2,7 +2,6 @@
 use mathlib.Core.Path.{refl}
 use Prim.Native.Nat.{◌≤◌}
 use native.Mathlib.Omega.{arith}
-use borrow.Author.Rules.{rules}
 use Rattle.meaning.specs.Zones.Variables.{variables}
 use Rattle.meaning.specs.Text.ModelTable.{decode}
 use Rattle.meaning.specs.Text.RightModel.{RightModel}
@@ -21,17 +20,17 @@ use Rattle.step_reach.proofs.reply.stepped.Goals as goal
 pub returns-then-t : goal.returns-then-t
 returns-then-t c =
     let right : RightModel (decode c.args.model.now) =
-        (c.requires.right_table.right) in
+    (c.requires.right_table.right) in
     let ranged : RangedModel (decode c.args.model.now) =
-        (right_ranged (decode c.args.model.now) right) in
+    (right_ranged (decode c.args.model.now) right) in
     let few : variables (decode c.args.model.now) (order_of c.args.home) ≤ 17 =
-        (variables_few (decode c.args.model.now) right c.args.home.count c.args.home.tasks c.requires.right_home.few) in
+    (variables_few (decode c.args.model.now) right c.args.home.count c.args.home.tasks c.requires.right_home.few) in
     let narrowed : Narrowed (source_bounds (decode c.args.model.now) (zone_with c.args.home c.args.bounds) (step_of c.args.step)) c.step_matrix-t.result =
-        (let n = decode c.args.model.now in
-        narrowed_then (zone_bounds n (zone_with c.args.home c.args.bounds)) (step_bounds n (home_of c.args.home) (step_of c.args.step))
-        c.zone_matrix.result c.step_matrix-t.result c.zone_matrix.ensures c.step_matrix-t.ensures) in
+    (let n = decode c.args.model.now in
+    narrowed_then (zone_bounds n (zone_with c.args.home c.args.bounds)) (step_bounds n (home_of c.args.home) (step_of c.args.step))
+    c.zone_matrix.result c.step_matrix-t.result c.zone_matrix.ensures c.step_matrix-t.ensures) in
     let after : variables (decode c.args.model.now) (order_of c.plan_of-p.result.home) ≤ 17 =
-        (variables_few (decode c.args.model.now) right c.plan_of-p.result.home.count c.plan_of-p.result.home.tasks c.plan_of-p.ensures.few) in
+    (variables_few (decode c.args.model.now) right c.plan_of-p.result.home.count c.plan_of-p.result.home.tasks c.plan_of-p.ensures.few) in
     let p = c.plan_of-p in
     record {
       taken = refl;
@@ -44,36 +43,40 @@ returns-then-t c =
 pub remap-requires : goal.remap-requires
 remap-requires c =
     let right : RightModel (decode c.args.model.now) =
-        (c.requires.right_table.right) in
+    (c.requires.right_table.right) in
     let ranged : RangedModel (decode c.args.model.now) =
-        (right_ranged (decode c.args.model.now) right) in
+    (right_ranged (decode c.args.model.now) right) in
     let few : variables (decode c.args.model.now) (order_of c.args.home) ≤ 17 =
-        (variables_few (decode c.args.model.now) right c.args.home.count c.args.home.tasks c.requires.right_home.few) in
+    (variables_few (decode c.args.model.now) right c.args.home.count c.args.home.tasks c.requires.right_home.few) in
     let narrowed : Narrowed (source_bounds (decode c.args.model.now) (zone_with c.args.home c.args.bounds) (step_of c.args.step)) c.step_matrix-t.result =
-        (let n = decode c.args.model.now in
-        narrowed_then (zone_bounds n (zone_with c.args.home c.args.bounds)) (step_bounds n (home_of c.args.home) (step_of c.args.step))
-        c.zone_matrix.result c.step_matrix-t.result c.zone_matrix.ensures c.step_matrix-t.ensures) in
+    (let n = decode c.args.model.now in
+    narrowed_then (zone_bounds n (zone_with c.args.home c.args.bounds)) (step_bounds n (home_of c.args.home) (step_of c.args.step))
+    c.zone_matrix.result c.step_matrix-t.result c.zone_matrix.ensures c.step_matrix-t.ensures) in
     let after : variables (decode c.args.model.now) (order_of c.plan_of-p.result.home) ≤ 17 =
-        (variables_few (decode c.args.model.now) right c.plan_of-p.result.home.count c.plan_of-p.result.home.tasks c.plan_of-p.ensures.few) in
+    (variables_few (decode c.args.model.now) right c.plan_of-p.result.home.count c.plan_of-p.result.home.tasks c.plan_of-p.ensures.few) in
     let p = c.plan_of-p in
-    let e = c.if-t.false in record { n_bound = omega (arith, after, p.ensures.many); entries = ((narrowed).ready e).entries; maps = maps_of (decode c.args.model.now) (zone_with c.args.home c.args.bounds) (step_of c.args.step) (ranged) c.requires.ranged_zone (few)
-            c.step_matrix-t.result (narrowed) p.result p.ensures (after) e
-            (head_small (decode c.args.model.now) (right) (order_of c.args.home)) }
+    let e = c.if-t.false in record {
+      n_bound = omega (arith, after, p.ensures.many);
+      entries = ((narrowed).ready e).entries;
+      maps = maps_of (decode c.args.model.now) (zone_with c.args.home c.args.bounds) (step_of c.args.step) (ranged) c.requires.ranged_zone (few)
+          c.step_matrix-t.result (narrowed) p.result p.ensures (after) e
+          (head_small (decode c.args.model.now) (right) (order_of c.args.home));
+    }
 
 pub returns : goal.returns
 returns c =
     let right : RightModel (decode c.args.model.now) =
-        (c.requires.right_table.right) in
+    (c.requires.right_table.right) in
     let ranged : RangedModel (decode c.args.model.now) =
-        (right_ranged (decode c.args.model.now) right) in
+    (right_ranged (decode c.args.model.now) right) in
     let few : variables (decode c.args.model.now) (order_of c.args.home) ≤ 17 =
-        (variables_few (decode c.args.model.now) right c.args.home.count c.args.home.tasks c.requires.right_home.few) in
+    (variables_few (decode c.args.model.now) right c.args.home.count c.args.home.tasks c.requires.right_home.few) in
     let narrowed : Narrowed (source_bounds (decode c.args.model.now) (zone_with c.args.home c.args.bounds) (step_of c.args.step)) c.step_matrix-t.result =
-        (let n = decode c.args.model.now in
-        narrowed_then (zone_bounds n (zone_with c.args.home c.args.bounds)) (step_bounds n (home_of c.args.home) (step_of c.args.step))
-        c.zone_matrix.result c.step_matrix-t.result c.zone_matrix.ensures c.step_matrix-t.ensures) in
+    (let n = decode c.args.model.now in
+    narrowed_then (zone_bounds n (zone_with c.args.home c.args.bounds)) (step_bounds n (home_of c.args.home) (step_of c.args.step))
+    c.zone_matrix.result c.step_matrix-t.result c.zone_matrix.ensures c.step_matrix-t.ensures) in
     let after : variables (decode c.args.model.now) (order_of c.plan_of-p.result.home) ≤ 17 =
-        (variables_few (decode c.args.model.now) right c.plan_of-p.result.home.count c.plan_of-p.result.home.tasks c.plan_of-p.ensures.few) in
+    (variables_few (decode c.args.model.now) right c.plan_of-p.result.home.count c.plan_of-p.result.home.tasks c.plan_of-p.ensures.few) in
     let p = c.plan_of-p in
     let e = c.if-t.false in
     let x = map_of (decode c.args.model.now) (zone_with c.args.home c.args.bounds) (step_of c.args.step) (ranged) c.requires.ranged_zone (few)

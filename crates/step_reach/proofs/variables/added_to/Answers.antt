@@ -4,10 +4,8 @@ use native.Mathlib.Omega.{arith}
 use Rattle.bounds.proofs.Signed.{back}
 use Rattle.step_reach.specs.Plans.{Adds}
 use Rattle.step_reach.proofs.VariableLaws.{added_zero, added_clock, added_sum, added_age}
-use borrow.Author.Rules.{rules}
 use Rattle.step_reach.proofs.variables.added_to.Goals as goal
 
--- Assumes nothing.
 pub returns-then-i-eq0 : goal.returns-then-i-eq0
 returns-then-i-eq0 c = let s = c.args in added_zero s.clocks s.time s.sum s.i c.if-i-eq0.true
 

@@ -1,12 +1,9 @@
 -- `step_reach::variables::all_added` meets its contract.
-use mathlib.Core.Path.{◌≡◌, refl, sym, ◌∙◌, subst}
-use Prim.Native.Nat.{ℕ, ◌-◌, ◌<◌, ◌≤◌}
+use mathlib.Core.Path.{refl, sym, ◌∙◌, subst}
 use native.Mathlib.Omega.{arith}
 use borrow.Author.Rules.{rules}
 use lib.IntN.{pos}
-use lib.ListN.{length, get_or, replicate}
-use mir.Syntax.{w32}
-use mir.Val.{to_z}
+use lib.ListN.{replicate}
 use Rattle.bounds.proofs.Signed.{rd, back}
 use Rattle.bounds.proofs.Store.{stored, beyond, zeros_z}
 use Rattle.step_reach.specs.Plans.{Adds}

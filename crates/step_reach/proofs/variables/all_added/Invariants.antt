@@ -1,18 +1,11 @@
 -- What the loops of `all_added` keep, and how they end.
-use mathlib.Core.Path.{◌≡◌, refl, sym, ◌∙◌, subst}
+use mathlib.Core.Path.{◌≡◌}
 use Prim.Native.Nat.{ℕ, ◌-◌, ◌<◌, ◌≤◌}
-use native.Mathlib.Omega.{arith}
-use borrow.Author.Rules.{rules}
 use lib.IntN.{pos}
 use lib.ListN.{length, get_or, replicate}
-use mir.Syntax.{w32}
-use mir.Val.{to_z}
-use Rattle.bounds.proofs.Signed.{rd, back}
-use Rattle.bounds.proofs.Store.{stored, beyond, zeros_z}
 use Rattle.step_reach.specs.Plans.{Adds}
 use Rattle.step_reach.proofs.variables.all_added.Given as goal
 
--- Assumes nothing.
 abbrev pub invariant-loop-i : goal.invariant-loop-i
 invariant-loop-i l =
     (l.i ≤ l.n) × (length l.r ≡ 17) × ((q : ℕ) → q < l.i → Adds l.clocks l.time l.sum q (get_or l.r q (pos 0))) × ((q : ℕ) → l.i ≤ q → get_or l.r q (pos 0) ≡ get_or (replicate 17 (pos 0)) q (pos 0))

@@ -1,17 +1,13 @@
 -- What the loops of `all_from` keep, and how they end.
 use mathlib.Core.Path.{◌≡◌}
 use Prim.Native.Nat.{ℕ, ◌-◌, ◌<◌, ◌≤◌}
-use native.Mathlib.Omega.{arith}
-use borrow.Author.Rules.{rules}
 use lib.IntN.{pos}
 use lib.ListN.{length, get_or}
 use Rattle.meaning.specs.Text.ModelTable.{decode}
 use Rattle.meaning.specs.Inner.Plans.{from}
-use Rattle.bounds.proofs.Store.{stored_n, beyond_n, zeros}
 use Rattle.step_reach.specs.Plans.{plan_in}
 use Rattle.step_reach.proofs.variables.all_from.Given as goal
 
--- Assumes nothing.
 abbrev pub invariant-loop-i : goal.invariant-loop-i
 invariant-loop-i l =
     (l.i ≤ l.n) × (length l.r ≡ 17) × ((q : ℕ) → q < l.i → get_or l.r q 0 ≡ from (decode l.model) (plan_in l.model l.edge l.slots (pos 0) (pos 0)) q) × ((q : ℕ) → l.i ≤ q → get_or l.r q 0 ≡ 0)

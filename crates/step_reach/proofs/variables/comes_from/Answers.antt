@@ -1,7 +1,6 @@
 -- `step_reach::variables::comes_from` meets its contract.
 use mathlib.Core.Path.{sym, ◌∙◌}
 use Rattle.step_reach.proofs.VariableLaws.{comes_slot, comes_reset, comes_kept}
-use borrow.Author.Rules.{rules}
 use Rattle.step_reach.proofs.variables.comes_from.Goals as goal
 
 pub returns-then-clocks-i : goal.returns-then-clocks-i

@@ -1,6 +1,5 @@
 -- `step_reach::variables::slot_variable` meets its contract.
 use Rattle.step_reach.proofs.VariableLaws.{slot_sum, slot_age}
-use borrow.Author.Rules.{rules}
 use Rattle.step_reach.proofs.variables.slot_variable.Goals as goal
 
 pub returns-then-i-eq0 : goal.returns-then-i-eq0

@@ -1,5 +1,4 @@
 -- `machine_run::print::sums` meets its contract.
--- Assumes nothing.
 use Prim.Native.Nat.{◌*◌, ◌-◌, ◌≤◌}
 use borrow.Author.Rules.{rules}
 use Rattle.try_machine.proofs.print.sums.Statement.{statement}

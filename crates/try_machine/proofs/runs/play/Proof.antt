@@ -1,5 +1,4 @@
 -- `machine_run::runs::play` meets its contract.
--- Assumes nothing.
 use Prim.Native.Nat.{◌-◌, ◌≤◌}
 use lib.ListN.{length}
 use borrow.Author.Rules.{rules}

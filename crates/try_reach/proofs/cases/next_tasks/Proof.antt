@@ -1,5 +1,4 @@
 -- `zones_run::cases::next_tasks` meets its contract.
--- Assumes nothing.
 use Prim.Native.Nat.{◌-◌, ◌≤◌}
 use mathlib.Core.Path.{◌≡◌}
 use lib.ListN.{length}

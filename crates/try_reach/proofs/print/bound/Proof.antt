@@ -1,5 +1,4 @@
 -- `zones_run::print::bound` meets its contract.
--- Assumes nothing.
 use lib.IntN.{pos, ◌-ℤ◌}
 use mir.Syntax.{w32}
 use mir.Val.{SFits}

@@ -1,5 +1,4 @@
 -- `zones_run::print::row` meets its contract.
--- Assumes nothing.
 use Prim.Native.Nat.{◌-◌, ◌≤◌}
 use borrow.Author.Rules.{rules}
 use Rattle.try_reach.proofs.print.row.Statement.{statement}

@@ -1,5 +1,4 @@
 -- `verdict_run::longest::put_heads` meets its contract.
--- Assumes nothing.
 use Prim.Native.Nat.{◌-◌, ◌≤◌}
 use mathlib.Core.Path.{◌≡◌}
 use lib.ListN.{length}

@@ -11,7 +11,6 @@ use Rattle.verdict.specs.AnsweredBy.{AnsweredBy}
 use Rattle.verdict.proofs.TriedLaws.{TriedTo, tried_first, answered_start, answered_zone, zone_tried, answered_all}
 use Rattle.verdict.proofs.answering.check_given.Given as goal
 
--- Assumes nothing.
 abbrev pub invariant-loop-n : goal.invariant-loop-n
 invariant-loop-n l = (l.n ≤ l.many) × (l.tried ≤ 1 + 32767 * l.n) × TriedTo (decode l.model) (table.decode l.zones) l.n l.tried
 

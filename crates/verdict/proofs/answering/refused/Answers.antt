@@ -7,7 +7,6 @@ use Rattle.verdict.specs.declared.answer.Answer.{Answer}
 use Rattle.verdict.specs.declared.answer.Fault.TheVariants.{Nothing}
 use Rattle.verdict.proofs.answering.refused.Goals as goal
 
--- Assumes nothing.
 abbrev refusing : State → Answer
 refusing s = record { refusal = not_proper; number = 0; zone = 0; place = 0; fault = Nothing; state = s }
 

@@ -8,7 +8,6 @@ use Rattle.verdict.specs.Judged.{following, Judged}
 use Rattle.verdict.proofs.DrawLaws.{none_judged, drawn_of}
 use Rattle.verdict.proofs.judge.judge.Goals as goal
 
--- Assumes nothing.
 pub step_matrix-t-requires : goal.step_matrix-t-requires
 step_matrix-t-requires c = record { right_table = c.requires.right_table.0; right_home = c.requires.closed_by.closed.right; listed = c.requires.listed; workable = c.requires.closed_by.closed.narrowed.ready }
 

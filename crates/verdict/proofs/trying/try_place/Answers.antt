@@ -11,7 +11,6 @@ use Rattle.zone_table.proofs.SoundGiven.{zones_few}
 use Rattle.verdict.proofs.PlaceLaws.{claim_most, place_most, place_judged}
 use Rattle.verdict.proofs.trying.try_place.Goals as goal
 
--- Assumes nothing.
 pub step_at-step-requires : goal.step_at-step-requires
 step_at-step-requires c =
     let a = c.args in

@@ -14,7 +14,6 @@ use Rattle.verdict.proofs.PlaceLaws.{claims_many, claims_most, read_closed}
 use Rattle.verdict.proofs.TryLaws.{tried_by, tried_none, tried_on, tried_fails, tried_all}
 use Rattle.verdict.proofs.trying.try_zone.Given as goal
 
--- Assumes nothing.
 abbrev pub invariant-loop-x : goal.invariant-loop-x
 invariant-loop-x l = (l.x ≤ l.many) × (l.number ≡ l.before + l.x) × HoldBefore (decode l.model) (table.decode l.zones) l.n (table.zone_in l.zones (l.n - 1)) (l.x + 1)
 

@@ -8,7 +8,6 @@ use Rattle.home.proofs.Walks.{is_so, is_not}
 use Rattle.zone.proofs.EntryLaws.{range_make}
 use Rattle.zone.proofs.entries.in_range.Goals as goal
 
--- Assumes nothing.
 -- 0 and the end of the range, as they are written
 zero : SFits w32 (pos 0)
 zero = sfits_lit tt

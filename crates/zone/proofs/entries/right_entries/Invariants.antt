@@ -3,7 +3,6 @@ use Prim.Native.Nat.{◌-◌}
 use Rattle.zone.proofs.EntryLaws.{Passed}
 use Rattle.zone.proofs.entries.right_entries.Given as goal
 
--- Assumes nothing.
 abbrev pub invariant-loop-k : goal.invariant-loop-k
 invariant-loop-k l = Passed l.n l.bounds l.k
 

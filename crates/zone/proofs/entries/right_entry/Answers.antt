@@ -5,7 +5,6 @@ use Rattle.zone.proofs.EntryLaws.{is_none, is_bound_lem}
 use native.Mathlib.Omega.{arith}
 use Rattle.zone.proofs.entries.right_entry.Goals as goal
 
--- Assumes nothing.
 pub returns-then-c-eq-NO_BOUND : goal.returns-then-c-eq-NO_BOUND
 returns-then-c-eq-NO_BOUND c = is_so (record { bound = λ h. absurd (is_none _ c.ranges.c c.if-c-eq-NO_BOUND.true h) })
 

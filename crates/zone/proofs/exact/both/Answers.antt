@@ -11,7 +11,6 @@ use Rattle.bounds.proofs.Signed.{signed, rd, back, at, fits_make, diff_at, diff_
 use native.Mathlib.Omega.{arith}
 use Rattle.zone.proofs.exact.both.Goals as goal
 
--- Assumes nothing.
 -- the number and its opposite, as the machine makes them
 module _ (v : ℕ) (h : v ≤ 32000) where
   fits : SFits w32 (pos v)

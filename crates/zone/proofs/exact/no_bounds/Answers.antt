@@ -2,6 +2,5 @@
 use Rattle.zone.proofs.ExactLaws.{empty_made}
 use Rattle.zone.proofs.exact.no_bounds.Goals as goal
 
--- Assumes nothing.
 pub returns : goal.returns
 returns c = empty_made

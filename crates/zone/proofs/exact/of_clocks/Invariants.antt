@@ -5,7 +5,6 @@ use lib.ListN.{length}
 use Rattle.zone.proofs.ExactLaws.{ClocksUpto}
 use Rattle.zone.proofs.exact.of_clocks.Given as goal
 
--- Assumes nothing.
 abbrev pub invariant-loop-k : goal.invariant-loop-k
 invariant-loop-k l = (length l.clocks ≡ 4) × ClocksUpto l.clocks l.n l.r l.k
 

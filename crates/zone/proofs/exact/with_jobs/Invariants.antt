@@ -5,7 +5,6 @@ use lib.ListN.{length}
 use Rattle.zone.proofs.ExactLaws.{JobsUpto}
 use Rattle.zone.proofs.exact.with_jobs.Given as goal
 
--- Assumes nothing.
 abbrev pub invariant-loop-k : goal.invariant-loop-k
 invariant-loop-k l = (length l.jobs ≡ 6) × JobsUpto l.initial.r l.n l.jobs l.count l.r l.ahead l.sum l.k
 

@@ -4,7 +4,6 @@ use Rattle.bounds.proofs.Signed.{back}
 use Rattle.zone_bounds.proofs.NarrowLaws.{size_most, narrows_empty, narrows_none, narrows_one}
 use Rattle.zone_bounds.proofs.narrowing.narrow.Goals as goal
 
--- Assumes nothing.
 pub returns-then-t : goal.returns-then-t
 returns-then-t c = narrows_empty c.args.t c.requires.workable c.args.i c.args.j c.args.c c.if-t.true
 

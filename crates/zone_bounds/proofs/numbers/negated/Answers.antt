@@ -7,7 +7,6 @@ use Rattle.bounds.proofs.Signed.{rd, back}
 use Rattle.zone_bounds.proofs.NumberLaws.{neg_is, neg_fits, neg_size, bound_fits}
 use Rattle.zone_bounds.proofs.numbers.negated.Goals as goal
 
--- Assumes nothing.
 -- minus c, as the machine has it
 minus : (c : goal.Start) → pos 0 -ℤ rd c.args.c ≡ neg_ℤ c.args.c
 minus c = ap (λ (x : ℤ). pos 0 -ℤ x) (back c.args.c c.ranges.c) ∙ neg_is c.args.c

@@ -12,7 +12,6 @@ use Rattle.zone_bounds.proofs.NumberLaws.{read, sub_small}
 use Rattle.zone_bounds.proofs.NarrowLaws.{narrows_then}
 use Rattle.zone_bounds.proofs.properness.proper_job.Goals as goal
 
--- Assumes nothing.
 pub work-requires : goal.work-requires
 work-requires c = tt
 

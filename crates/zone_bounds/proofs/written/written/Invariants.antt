@@ -4,7 +4,6 @@ use Rattle.zone_bounds.specs.Narrowed.{Narrows}
 use Rattle.zone_bounds.proofs.WrittenLaws.{written_to}
 use Rattle.zone_bounds.proofs.written.written.Given as goal
 
--- Assumes nothing.
 abbrev pub invariant-loop-k : goal.invariant-loop-k
 invariant-loop-k l = (l.k ≤ 289) × Narrows (written_to l.bounds l.k) l.initial.r l.r
 

@@ -7,7 +7,6 @@ use Rattle.home.specs.Stands.{tasks_of}
 use Rattle.zone_list.proofs.ChosenLaws.{Seeking}
 use Rattle.zone_list.proofs.choice.ahead_at.Given as goal
 
--- Assumes nothing.
 abbrev pub invariant-loop-p : goal.invariant-loop-p
 invariant-loop-p l = (length l.tasks ≡ 6) × Seeking (decode l.model) l.task (drop (l.k + 1) (tasks_of l.releases)) (take l.count l.tasks) l.rest l.p l.left
 

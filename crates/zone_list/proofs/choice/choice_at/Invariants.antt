@@ -7,7 +7,6 @@ use Rattle.home.specs.Stands.{tasks_of}
 use Rattle.zone_list.proofs.ChosenLaws.{Choosing}
 use Rattle.zone_list.proofs.choice.choice_at.Given as goal
 
--- Assumes nothing.
 abbrev pub invariant-loop-k : goal.invariant-loop-k
 invariant-loop-k l = (l.k ≤ l.n) × (length l.tasks ≡ 6) × (length l.new ≡ 4) × (length l.r ≡ 4) × Choosing (decode l.model) (tasks_of l.releases) (take l.count l.initial.tasks) l.rest l.k (take (l.count + l.k) l.tasks) l.left l.r
 

@@ -5,7 +5,6 @@ use lib.ListN.{length}
 use Rattle.zone_list.proofs.FormLaws.{Checked}
 use Rattle.zone_list.proofs.listed.are_numbered.Given as goal
 
--- Assumes nothing.
 abbrev pub invariant-loop-k : goal.invariant-loop-k
 invariant-loop-k l = (l.k ≤ 4) × (length l.positions ≡ 4) × Checked l.count l.positions l.k
 

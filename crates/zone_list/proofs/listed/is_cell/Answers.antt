@@ -2,7 +2,6 @@
 use borrow.Author.Tests.{ltb-true, lt-ltb, eqb-true, eq-eqb}
 use Rattle.zone_list.proofs.listed.is_cell.Goals as goal
 
--- Assumes nothing.
 pub returns-then-used : goal.returns-then-used
 returns-then-used c = rw c.if-used.true (λ e. ltb-true 0 _ e, λ h. lt-ltb 0 _ h)
 

@@ -5,7 +5,6 @@ use Rattle.home.proofs.Walks.{is_not}
 use Rattle.zone_list.proofs.FormLaws.{form_made, form_numbered}
 use Rattle.zone_list.proofs.listed.is_formed.Goals as goal
 
--- Assumes nothing.
 pub returns-then-step-gt4 : goal.returns-then-step-gt4
 returns-then-step-gt4 c = is_not (λ f. let h = f.few in omega arith)
 

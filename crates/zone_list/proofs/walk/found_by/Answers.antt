@@ -3,7 +3,6 @@ use mathlib.Core.Path.{refl}
 use native.Mathlib.Omega.{arith}
 use Rattle.zone_list.proofs.walk.found_by.Goals as goal
 
--- Assumes nothing.
 pub returns-then-x-many : goal.returns-then-x-many
 returns-then-x-many c = record { before = λ h. refl; behind = λ h. refl; here = λ h g. absurd (omega arith) }
 

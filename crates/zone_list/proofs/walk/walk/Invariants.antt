@@ -5,7 +5,6 @@ use Rattle.home.specs.Stands.{home_of}
 use Rattle.zone_list.proofs.WalkLaws.{Walking}
 use Rattle.zone_list.proofs.walk.walk.Given as goal
 
--- Assumes nothing.
 abbrev pub invariant-loop-k : goal.invariant-loop-k
 invariant-loop-k l = (l.k ≤ l.n) × (l.many ≤ 100000) × Walking (decode l.model) (home_of l.home) l.claims l.at l.x l.many l.zeros l.found l.k
 

@@ -1,10 +1,9 @@
 -- `zone_table::counts::count_from` meets its contract.
-use Prim.Native.Nat.{ℕ, ◌+◌, ◌-◌, ◌*◌, ◌≤◌}
+use Prim.Native.Nat.{ℕ, ◌+◌}
 use mathlib.Core.Path.{◌≡◌, sym, ap, ◌∙◌}
 use Rattle.meaning.specs.Text.Choice.{pick}
 use Rattle.meaning.specs.Text.ModelTable.{count, there}
 use Rattle.model_table.proofs.CountLaws.{count_step, count_none}
-use borrow.Author.Rules.{rules}
 use native.Mathlib.Omega.{arith}
 use Rattle.zone_table.proofs.counts.count_from.Goals as goal
 

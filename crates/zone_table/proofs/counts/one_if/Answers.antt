@@ -2,7 +2,6 @@
 use lib.ListN.{get_or}
 use Rattle.model_table.proofs.CountLaws.{one_there, one_not}
 use native.Mathlib.Omega.{arith}
-use borrow.Author.Rules.{rules}
 use Rattle.zone_table.proofs.counts.one_if.Goals as goal
 
 pub returns-then-cell-gt0 : goal.returns-then-cell-gt0

@@ -4,7 +4,6 @@ use mathlib.Core.Path.{ap, ◌∙◌}
 use Rattle.meaning.specs.Text.ModelTable.{count}
 use Rattle.zone_table.proofs.TestLaws.{queue_count}
 use Rattle.zone_table.proofs.SoundGiven.{queue_few}
-use borrow.Author.Rules.{rules}
 use native.Mathlib.Omega.{arith}
 use Rattle.zone_table.proofs.counts.queued.Goals as goal
 

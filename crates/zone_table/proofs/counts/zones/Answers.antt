@@ -3,7 +3,6 @@ use native.Mathlib.Omega.{arith}
 use mathlib.Core.Path.{◌∙◌}
 use Rattle.zone_table.proofs.TestLaws.{zones_count}
 use Rattle.zone_table.proofs.SoundGiven.{zones_few}
-use borrow.Author.Rules.{rules}
 use Rattle.zone_table.proofs.counts.zones.Goals as goal
 
 pub returns : goal.returns

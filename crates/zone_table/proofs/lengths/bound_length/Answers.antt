@@ -4,7 +4,6 @@ use Rattle.meaning.specs.Text.ProposalText.{bound_text}
 use Rattle.zone_table.specs.Kept.{kept_bound}
 use native.Mathlib.Omega.{arith}
 use Rattle.zone_table.proofs.LengthLaws.{bound_there, not_there}
-use borrow.Author.Rules.{rules}
 use Rattle.zone_table.proofs.lengths.bound_length.Goals as goal
 
 pub returns-then-v-gt0 : goal.returns-then-v-gt0

@@ -1,10 +1,9 @@
 -- `zone_table::lengths::bounds_length` meets its contract.
-use Prim.Native.Nat.{ℕ, ◌+◌, ◌-◌, ◌*◌, ◌≤◌}
+use Prim.Native.Nat.{ℕ, ◌+◌, ◌-◌}
 use mathlib.Core.Path.{◌≡◌, ap, ◌∙◌}
 use lib.ListN.{length, get_or}
 use Rattle.zone_table.proofs.RowLaws.{bound_row}
 use Rattle.zone_table.proofs.LengthLaws.{bounds_end, bounds_none, bounds_step}
-use borrow.Author.Rules.{rules}
 use native.Mathlib.Omega.{arith}
 use Rattle.zone_table.proofs.lengths.bounds_length.Goals as goal
 

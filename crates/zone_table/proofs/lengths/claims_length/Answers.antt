@@ -1,11 +1,10 @@
 -- `zone_table::lengths::claims_length` meets its contract.
 use Rattle.meaning.specs.Text.Lines.{kept_text}
-use Prim.Native.Nat.{ℕ, ◌+◌, ◌-◌, ◌*◌, ◌≤◌}
+use Prim.Native.Nat.{ℕ}
 use mathlib.Core.Path.{◌≡◌, ap, ◌∙◌}
 use lib.ListN.{length}
 use Rattle.zone_table.proofs.RowLaws.{claim_row}
 use Rattle.zone_table.proofs.LengthLaws.{claims_end, claims_none, claims_step}
-use borrow.Author.Rules.{rules}
 use native.Mathlib.Omega.{arith}
 use Rattle.zone_table.proofs.lengths.claims_length.Goals as goal
 

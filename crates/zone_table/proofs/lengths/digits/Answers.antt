@@ -4,7 +4,6 @@ use mathlib.Core.Path.{sym}
 use Rattle.zone_table.proofs.LengthLaws.{dec_one, dec_two, dec_three, dec_four, dec_five, dec_six}
 use Rattle.zone_table.proofs.lengths.digits.Goals as goal
 
--- Assumes nothing.
 pub returns-then-v-lt10 : goal.returns-then-v-lt10
 returns-then-v-lt10 c = (sym (dec_one _ (omega arith)), omega arith)
 

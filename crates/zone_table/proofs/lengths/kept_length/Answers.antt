@@ -1,7 +1,6 @@
 -- `zone_table::lengths::kept_length` meets its contract.
 use native.Mathlib.Omega.{arith}
 use Rattle.zone_table.proofs.LengthLaws.{kept_minus_length, kept_plain_length}
-use borrow.Author.Rules.{rules}
 use Rattle.zone_table.proofs.lengths.kept_length.Goals as goal
 
 pub returns-then-v-below : goal.returns-then-v-below

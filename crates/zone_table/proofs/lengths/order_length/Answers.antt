@@ -1,11 +1,10 @@
 -- `zone_table::lengths::order_length` meets its contract.
-use Prim.Native.Nat.{ℕ, ◌+◌, ◌-◌, ◌*◌, ◌≤◌}
+use Prim.Native.Nat.{ℕ, ◌+◌, ◌-◌}
 use mathlib.Core.Path.{◌≡◌, ap, ◌∙◌}
 use lib.ListN.{length, get_or}
 use Rattle.meaning.specs.Text.Lines.{kept_text}
 use Rattle.zone_table.proofs.RowLaws.{task_row}
 use Rattle.zone_table.proofs.LengthLaws.{order_end, tasks_none, tasks_step}
-use borrow.Author.Rules.{rules}
 use native.Mathlib.Omega.{arith}
 use Rattle.zone_table.proofs.lengths.order_length.Goals as goal
 

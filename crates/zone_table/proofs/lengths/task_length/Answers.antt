@@ -3,7 +3,6 @@ use Prim.Native.Nat.{◌-◌}
 use Rattle.zone_table.specs.Kept.{field_text}
 use native.Mathlib.Omega.{arith}
 use Rattle.zone_table.proofs.LengthLaws.{task_there, not_there}
-use borrow.Author.Rules.{rules}
 use Rattle.zone_table.proofs.lengths.task_length.Goals as goal
 
 pub returns-then-v-gt0 : goal.returns-then-v-gt0

@@ -1,10 +1,9 @@
 -- `zone_table::lengths::text_length` meets its contract.
-use Prim.Native.Nat.{ℕ, ◌+◌, ◌-◌, ◌*◌, ◌≤◌}
+use Prim.Native.Nat.{ℕ, ◌+◌, ◌-◌}
 use mathlib.Core.Path.{◌≡◌, ap}
 use lib.ListN.{length}
 use Rattle.zone_table.proofs.RowLaws.{zone_row}
 use Rattle.zone_table.proofs.LengthLaws.{zones_end, zones_none, zones_step}
-use borrow.Author.Rules.{rules}
 use native.Mathlib.Omega.{arith}
 use Rattle.zone_table.proofs.lengths.text_length.Goals as goal
 

@@ -1,14 +1,10 @@
 -- What the loops of `text_length` keep, and how they end.
-use Prim.Native.Nat.{ℕ, ◌+◌, ◌-◌, ◌*◌, ◌≤◌}
-use mathlib.Core.Path.{◌≡◌, ap}
+use Prim.Native.Nat.{◌-◌, ◌*◌, ◌≤◌}
+use mathlib.Core.Path.{◌≡◌}
 use lib.ListN.{length}
 use Rattle.zone_table.proofs.RowLaws.{zone_row}
-use Rattle.zone_table.proofs.LengthLaws.{zones_end, zones_none, zones_step}
-use borrow.Author.Rules.{rules}
-use native.Mathlib.Omega.{arith}
 use Rattle.zone_table.proofs.lengths.text_length.Given as goal
 
--- Assumes nothing.
 abbrev pub invariant-loop-k : goal.invariant-loop-k
 invariant-loop-k l = (l.k ≤ 48) × (l.n ≡ length (zone_row l.zones l.k)) × (l.n ≤ 34359800000 * l.k)
 

@@ -5,7 +5,6 @@ use lib.ListN.{get_or}
 use Rattle.meaning.specs.Text.ProposalText.{zone_text}
 use Rattle.meaning.specs.Text.ProposalTable.{zone_in}
 use Rattle.zone_table.proofs.LengthLaws.{not_there, zone_sum}
-use borrow.Author.Rules.{rules}
 use native.Mathlib.Omega.{arith}
 use Rattle.zone_table.proofs.lengths.zone_length.Goals as goal
 

@@ -1,10 +1,8 @@
 -- `zone_table::pool::up_to_last` meets its contract.
-use Prim.Native.Nat.{ℕ, ◌-◌, ◌≤◌}
-use mathlib.Core.Path.{◌≡◌, sym, ap, ◌∙◌}
-use Rattle.zone_list.specs.Counted.{numbers_in}
+use Prim.Native.Nat.{ℕ, ◌-◌}
+use mathlib.Core.Path.{sym, ap, ◌∙◌}
 use Rattle.zone_table.specs.Read.{none_above}
-use Rattle.zone_table.proofs.ClaimLaws.{rest, rest_all, up_to_none, up_to_not, up_to_later}
-use borrow.Author.Rules.{rules}
+use Rattle.zone_table.proofs.ClaimLaws.{rest_all, up_to_none, up_to_not, up_to_later}
 use native.Mathlib.Omega.{arith}
 use Rattle.zone_table.proofs.pool.up_to_last.Goals as goal
 

@@ -1,7 +1,6 @@
 -- `zone_table::test::bound_fits` meets its contract.
 use native.Mathlib.Omega.{arith}
 use Rattle.zone_table.proofs.Deciding.{no}
-use borrow.Author.Rules.{rules}
 use Rattle.zone_table.proofs.test.bound_fits.Goals as goal
 
 pub returns-then-v-gt-KEPT_MOST : goal.returns-then-v-gt-KEPT_MOST

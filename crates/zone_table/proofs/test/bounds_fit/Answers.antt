@@ -1,10 +1,9 @@
 -- `zone_table::test::bounds_fit` meets its contract.
-use Prim.Native.Nat.{ℕ, ◌+◌, ◌-◌, ◌*◌, ◌≤◌, ◌<◌}
+use Prim.Native.Nat.{ℕ, ◌+◌, ◌-◌, ◌*◌}
 use mathlib.Core.Path.{ap, ◌∙◌}
 use lib.ListN.{get_or}
 use Rattle.zone_table.specs.Sound.{BoundFits}
 use Rattle.zone_table.proofs.Deciding.{yes, no, all_more, all_fails}
-use borrow.Author.Rules.{rules}
 use native.Mathlib.Omega.{arith}
 use Rattle.zone_table.proofs.test.bounds_fit.Goals as goal
 

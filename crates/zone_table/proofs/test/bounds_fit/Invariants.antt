@@ -1,14 +1,9 @@
 -- What the loops of `bounds_fit` keep, and how they end.
 use Prim.Native.Nat.{ℕ, ◌+◌, ◌-◌, ◌*◌, ◌≤◌, ◌<◌}
-use mathlib.Core.Path.{ap, ◌∙◌}
 use lib.ListN.{get_or}
 use Rattle.zone_table.specs.Sound.{BoundFits}
-use Rattle.zone_table.proofs.Deciding.{yes, no, all_more, all_fails}
-use borrow.Author.Rules.{rules}
-use native.Mathlib.Omega.{arith}
 use Rattle.zone_table.proofs.test.bounds_fit.Given as goal
 
--- Assumes nothing.
 abbrev pub invariant-loop-x : goal.invariant-loop-x
 invariant-loop-x l = (l.x ≤ 289) × ((y : ℕ) → y < l.x → BoundFits l.last y (get_or l.zones (384 + 289 * (l.zone - 1) + y) 0))
 

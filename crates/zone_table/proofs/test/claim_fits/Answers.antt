@@ -1,7 +1,6 @@
 -- `zone_table::test::claim_fits` meets its contract.
 use native.Mathlib.Omega.{arith}
 use Rattle.zone_table.proofs.Deciding.{no, same_test, at_most}
-use borrow.Author.Rules.{rules}
 use Rattle.zone_table.proofs.test.claim_fits.Goals as goal
 
 pub returns-then-v-eq0 : goal.returns-then-v-eq0

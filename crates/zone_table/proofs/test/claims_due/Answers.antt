@@ -5,7 +5,6 @@ use Rattle.meaning.specs.Text.ModelTable.{decode}
 use Rattle.zone_table.proofs.Deciding.{no}
 use Rattle.zone_table.proofs.ReadLaws.{sound_home}
 use Rattle.zone_table.proofs.ZoneTests.{claims_most, claims_end, claims_many, claims_test}
-use borrow.Author.Rules.{rules}
 use native.Mathlib.Omega.{arith}
 use Rattle.zone_table.proofs.test.claims_due.Goals as goal
 

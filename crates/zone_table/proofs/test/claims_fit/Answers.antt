@@ -1,9 +1,8 @@
 -- `zone_table::test::claims_fit` meets its contract.
-use Prim.Native.Nat.{ℕ, ◌+◌, ◌-◌, ◌≤◌, ◌<◌}
+use Prim.Native.Nat.{ℕ, ◌+◌}
 use lib.ListN.{get_or}
 use Rattle.zone_table.specs.Sound.{ClaimFits}
 use Rattle.zone_table.proofs.Deciding.{yes, no, all_more, all_fails}
-use borrow.Author.Rules.{rules}
 use native.Mathlib.Omega.{arith}
 use Rattle.zone_table.proofs.test.claims_fit.Goals as goal
 

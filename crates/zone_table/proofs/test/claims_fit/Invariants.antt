@@ -2,12 +2,8 @@
 use Prim.Native.Nat.{ℕ, ◌+◌, ◌-◌, ◌≤◌, ◌<◌}
 use lib.ListN.{get_or}
 use Rattle.zone_table.specs.Sound.{ClaimFits}
-use Rattle.zone_table.proofs.Deciding.{yes, no, all_more, all_fails}
-use borrow.Author.Rules.{rules}
-use native.Mathlib.Omega.{arith}
 use Rattle.zone_table.proofs.test.claims_fit.Given as goal
 
--- Assumes nothing.
 abbrev pub invariant-loop-x : goal.invariant-loop-x
 invariant-loop-x l = (l.x ≤ l.e) × ((y : ℕ) → y < l.x → ClaimFits l.n (get_or l.zones (14256 + y) 0))
 

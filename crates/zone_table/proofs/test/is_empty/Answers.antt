@@ -1,10 +1,9 @@
 -- `zone_table::test::is_empty` meets its contract.
-use Prim.Native.Nat.{ℕ, ◌+◌, ◌-◌, ◌≤◌, ◌<◌}
+use Prim.Native.Nat.{◌+◌}
 use mathlib.Core.Path.{◌≡◌}
 use lib.ListN.{get_or}
 use borrow.Author.Count.{below_more}
 use Rattle.zone_table.proofs.Deciding.{yes, no}
-use borrow.Author.Rules.{rules}
 use native.Mathlib.Omega.{arith}
 use Rattle.zone_table.proofs.test.is_empty.Goals as goal
 

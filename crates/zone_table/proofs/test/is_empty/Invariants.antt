@@ -2,13 +2,8 @@
 use Prim.Native.Nat.{ℕ, ◌+◌, ◌-◌, ◌≤◌, ◌<◌}
 use mathlib.Core.Path.{◌≡◌}
 use lib.ListN.{get_or}
-use borrow.Author.Count.{below_more}
-use Rattle.zone_table.proofs.Deciding.{yes, no}
-use borrow.Author.Rules.{rules}
-use native.Mathlib.Omega.{arith}
 use Rattle.zone_table.proofs.test.is_empty.Given as goal
 
--- Assumes nothing.
 abbrev pub invariant-loop-x : goal.invariant-loop-x
 invariant-loop-x l = (l.x ≤ l.n) × ((y : ℕ) → y < l.x → get_or l.zones (l.from + y) 0 ≡ 0)
 

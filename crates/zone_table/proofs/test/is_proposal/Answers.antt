@@ -1,7 +1,6 @@
 -- `zone_table::test::is_proposal` meets its contract.
 use Rattle.zone_table.proofs.Deciding.{no, at_most}
 use Rattle.zone_table.proofs.ZoneTests.{given_test, given_fails}
-use borrow.Author.Rules.{rules}
 use Rattle.zone_table.proofs.test.is_proposal.Goals as goal
 
 pub returns-then-is_sound : goal.returns-then-is_sound

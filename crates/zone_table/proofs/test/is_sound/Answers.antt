@@ -2,11 +2,9 @@
 use borrow.Author.Tests.{not-true, not-false}
 use Rattle.zone_table.proofs.Deciding.{no}
 use Rattle.zone_table.proofs.ZoneTests.{unused_fails, zones_fail, sound_test, pool_room}
-use borrow.Author.Rules.{rules}
 use native.Mathlib.Omega.{arith}
 use Rattle.zone_table.proofs.test.is_sound.Goals as goal
 
--- Assumes nothing.
 pub returns-then-zones-ne-SIZE : goal.returns-then-zones-ne-SIZE
 returns-then-zones-ne-SIZE c = no (λ s. let l = s.long in omega arith)
 

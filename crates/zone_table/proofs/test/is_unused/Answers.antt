@@ -1,6 +1,5 @@
 -- `zone_table::test::is_unused` meets its contract.
 use Rattle.zone_table.proofs.Deciding.{no, same_test, ruled_out}
-use borrow.Author.Rules.{rules}
 use Rattle.zone_table.proofs.test.is_unused.Goals as goal
 
 pub returns-then-is_empty : goal.returns-then-is_empty

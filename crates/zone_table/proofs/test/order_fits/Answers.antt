@@ -3,7 +3,6 @@ use Prim.Native.Nat.{◌-◌}
 use Rattle.meaning.specs.Text.ModelTable.{decode}
 use Rattle.zone_table.proofs.Deciding.{same_test}
 use Rattle.zone_table.proofs.ReadLaws.{home_sound, sound_home}
-use borrow.Author.Rules.{rules}
 use Rattle.zone_table.proofs.test.order_fits.Goals as goal
 
 pub returns : goal.returns

@@ -1,6 +1,5 @@
 -- `zone_table::test::pool_fits` meets its contract.
 use Rattle.zone_table.proofs.Deciding.{no, same_test, ruled_out}
-use borrow.Author.Rules.{rules}
 use Rattle.zone_table.proofs.test.pool_fits.Goals as goal
 
 pub returns-then-claims_fit : goal.returns-then-claims_fit

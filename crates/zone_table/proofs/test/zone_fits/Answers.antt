@@ -3,7 +3,6 @@ use Prim.Native.Nat.{◌-◌}
 use borrow.Author.Tests.{not-true, not-false}
 use Rattle.zone_table.proofs.Deciding.{no, ruled_out}
 use Rattle.zone_table.proofs.ZoneTests.{zone_bounds, zone_test}
-use borrow.Author.Rules.{rules}
 use Rattle.zone_table.proofs.test.zone_fits.Goals as goal
 
 pub returns-then-not-order_fits : goal.returns-then-not-order_fits

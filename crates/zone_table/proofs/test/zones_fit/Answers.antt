@@ -1,11 +1,10 @@
 -- `zone_table::test::zones_fit` meets its contract.
-use Prim.Native.Nat.{ℕ, ◌+◌, ◌-◌, ◌≤◌, ◌<◌}
+use Prim.Native.Nat.{◌+◌, ◌-◌}
 use mathlib.Core.Path.{◌≡◌, sym, subst}
 use Rattle.meaning.specs.Text.ModelTable.{decode}
 use Rattle.zone_table.specs.Sound.{SoundZone}
 use borrow.Author.Count.{below_more}
 use Rattle.zone_table.proofs.Deciding.{yes, no, ruled_out}
-use borrow.Author.Rules.{rules}
 use native.Mathlib.Omega.{arith}
 use Rattle.zone_table.proofs.test.zones_fit.Goals as goal
 

@@ -1,15 +1,9 @@
 -- What the loops of `zones_fit` keep, and how they end.
-use Prim.Native.Nat.{ℕ, ◌+◌, ◌-◌, ◌≤◌, ◌<◌}
-use mathlib.Core.Path.{◌≡◌, sym, subst}
+use Prim.Native.Nat.{ℕ, ◌-◌, ◌≤◌, ◌<◌}
 use Rattle.meaning.specs.Text.ModelTable.{decode}
 use Rattle.zone_table.specs.Sound.{SoundZone}
-use borrow.Author.Count.{below_more}
-use Rattle.zone_table.proofs.Deciding.{yes, no, ruled_out}
-use borrow.Author.Rules.{rules}
-use native.Mathlib.Omega.{arith}
 use Rattle.zone_table.proofs.test.zones_fit.Given as goal
 
--- Assumes nothing.
 abbrev pub invariant-loop-k : goal.invariant-loop-k
 invariant-loop-k l = (l.k ≤ l.n) × ((j : ℕ) → j < l.k → SoundZone (decode l.model) l.zones j)
 

@@ -3,9 +3,9 @@ use mathlib.Core.Path.{◌∙◌, ap, ◌≡◌}
 use mir.Syntax.{w32}
 use mir.Val.{to_z, of_z}
 use mir.ValLaws.{to_z-of_z}
-use Prim.Native.Nat.{ℕ, ◌+◌, ◌-◌, ◌≤◌, ◌<◌}
+use Prim.Native.Nat.{ℕ, ◌+◌}
 use lib.IntN.{ℤ, pos}
-use lib.ListN.{length, get_or}
+use lib.ListN.{get_or}
 use Rattle.zone_table.specs.Read.{entry_of_kept}
 use Rattle.zone_table.proofs.EntryLaws.{entry_fits, stored}
 use borrow.Author.Rules.{rules}

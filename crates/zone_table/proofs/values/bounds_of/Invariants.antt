@@ -1,18 +1,11 @@
 -- What the loops of `bounds_of` keep, and how they end.
-use mathlib.Core.Path.{◌∙◌, ap, ◌≡◌}
-use mir.Syntax.{w32}
-use mir.Val.{to_z, of_z}
-use mir.ValLaws.{to_z-of_z}
+use mathlib.Core.Path.{◌≡◌}
 use Prim.Native.Nat.{ℕ, ◌+◌, ◌-◌, ◌≤◌, ◌<◌}
-use lib.IntN.{ℤ, pos}
+use lib.IntN.{pos}
 use lib.ListN.{length, get_or}
 use Rattle.zone_table.specs.Read.{entry_of_kept}
-use Rattle.zone_table.proofs.EntryLaws.{entry_fits, stored}
-use borrow.Author.Rules.{rules}
-use native.Mathlib.Omega.{arith}
 use Rattle.zone_table.proofs.values.bounds_of.Given as goal
 
--- Assumes nothing.
 abbrev pub invariant-loop-x : goal.invariant-loop-x
 invariant-loop-x l = (l.x ≤ 289) × (length l.b ≡ 289) × ((q : ℕ) → q < l.x → get_or l.b q (pos 0) ≡ entry_of_kept (get_or l.zones (l.from + q) 0))
 

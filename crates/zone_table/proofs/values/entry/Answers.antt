@@ -6,7 +6,6 @@ use mir.Val.{SFits}
 use mir.ValLaws.{to_z-of_z}
 use Rattle.zone_table.specs.Read.{entry_of_kept}
 use Rattle.zone_table.proofs.EntryLaws.{entry_fits, entry_is, no_entry}
-use borrow.Author.Rules.{rules}
 use Rattle.zone_table.proofs.values.entry.Goals as goal
 
 pub overflow_sub-result : goal.overflow_sub-result

@@ -2,7 +2,6 @@
 use mathlib.Core.Path.{subst}
 use Prim.Native.Nat.{ℕ, ◌-◌}
 use Rattle.zone_table.specs.Read.{HomeRead}
-use borrow.Author.Rules.{rules}
 use Rattle.zone_table.proofs.values.home_at.Goals as goal
 
 pub returns : goal.returns

@@ -2,7 +2,6 @@
 use mathlib.Core.Path.{refl, ap, ◌∙◌}
 use Prim.Native.Nat.{ℕ, ◌-◌}
 use lib.ListN.{get_or}
-use borrow.Author.Rules.{rules}
 use Rattle.zone_table.proofs.values.home_with.Goals as goal
 
 pub returns : goal.returns

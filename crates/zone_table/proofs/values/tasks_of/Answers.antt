@@ -1,7 +1,7 @@
 -- `zone_table::values::tasks_of` meets its contract.
-use Prim.Native.Nat.{ℕ, ◌+◌, ◌-◌, ◌*◌, ◌≤◌, ◌<◌}
-use mathlib.Core.Path.{◌≡◌, ◌∙◌, ap}
-use lib.ListN.{length, get_or}
+use Prim.Native.Nat.{ℕ, ◌+◌, ◌-◌, ◌*◌}
+use mathlib.Core.Path.{◌∙◌, ap}
+use lib.ListN.{get_or}
 use Rattle.home.proofs.OrderLaws.{zeros, stored, beyond}
 use Rattle.zone_table.proofs.ReadLaws.{row_read}
 use borrow.Author.Rules.{rules}

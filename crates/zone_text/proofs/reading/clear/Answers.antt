@@ -1,10 +1,9 @@
 -- `clear` meets its contract.
-use borrow.Author.Rules.{rules}
 use native.Mathlib.Omega.{arith}
-use Prim.Native.Nat.{◌≤◌, ◌<◌, ◌-◌}
-use mathlib.Core.Path.{◌≡◌, refl, ◌∙◌}
+use Prim.Native.Nat.{◌<◌}
+use mathlib.Core.Path.{refl, ◌∙◌}
 use lib.ListN.{length, length-set}
-use Rattle.zone_text.proofs.Laws.Clearing.{cleared, cleared_step, cleared_all, cleared_none}
+use Rattle.zone_text.proofs.Laws.Clearing.{cleared_step, cleared_all, cleared_none}
 use Rattle.zone_text.proofs.reading.clear.Goals as goal
 
 pub loop-i-init : goal.loop-i-init

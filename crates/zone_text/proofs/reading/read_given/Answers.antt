@@ -6,7 +6,6 @@ use Rattle.meaning.specs.Text.Ranges.{text_most}
 use Rattle.meaning.specs.Text.ModelTable.{decode}
 use Rattle.meaning.specs.Text.ProposalTable.{size}
 use Rattle.zone_text.proofs.Laws.Reading.{answered_refused, answered_as, read_room, read_long, read_stop, read_rest}
-use borrow.Author.Rules.{rules}
 use Rattle.zone_text.proofs.reading.read_given.Goals as goal
 
 pub returns-then-zones-ne-SIZE : goal.returns-then-zones-ne-SIZE

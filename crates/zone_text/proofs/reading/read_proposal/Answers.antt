@@ -4,7 +4,6 @@ use Rattle.meaning.specs.Text.ModelTable.{decode}
 use lib.ListN.{length}
 use Rattle.model_table.proofs.GivenLaws.{given_table}
 use Rattle.zone_text.proofs.Laws.Reading.{answered_refused, read_no_model}
-use borrow.Author.Rules.{rules}
 use Rattle.zone_text.proofs.reading.read_proposal.Goals as goal
 
 pub returns-then-not-is_model : goal.returns-then-not-is_model

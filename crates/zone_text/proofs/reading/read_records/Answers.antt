@@ -1,9 +1,8 @@
 -- `read_records` meets its contract.
-use Prim.Native.Nat.{ℕ, ◌-◌}
+use Prim.Native.Nat.{ℕ}
 use mathlib.Core.Path.{sym, ap, ◌∙◌}
-use lib.ListN.{length, replicate}
-use Rattle.zone_text.proofs.Laws.Reading.{ReadingAt, reading_start, holds, ready, begun_ready, turn_next, turn_end, turn_fault}
-use borrow.Author.Rules.{rules}
+use lib.ListN.{replicate}
+use Rattle.zone_text.proofs.Laws.Reading.{reading_start, holds, ready, begun_ready, turn_next, turn_end, turn_fault}
 use native.Mathlib.Omega.{arith}
 use Rattle.zone_text.proofs.reading.read_records.Goals as goal
 

@@ -1,7 +1,6 @@
 -- `mark` meets its contract.
 use mathlib.Core.Path.{refl, sym}
 use native.Mathlib.Omega.{arith}
-use borrow.Author.Rules.{rules}
 use Rattle.zone_text.proofs.reading_marks.mark.Goals as goal
 
 pub returns : goal.returns

@@ -3,7 +3,6 @@ use mathlib.Core.Path.{sym}
 use Rattle.zone_text.proofs.Laws.Marks.{mark_order, mark_bound, mark_claims, mark_end, mark_none}
 use Rattle.zone_text.proofs.reading_marks.mark_of.Goals as goal
 
--- Assumes nothing.
 pub returns-in-23118 : goal.returns-in-23118
 returns-in-23118 c a b h e = sym (mark_order a b _ h e c.in-23118.is)
 

@@ -1,5 +1,4 @@
 -- `take` meets its contract.
-use borrow.Author.Rules.{rules}
 use Rattle.meaning.specs.Text.ModelTable.{decode}
 use Rattle.zone_text.proofs.Laws.Orders.{took_wrong}
 use Rattle.zone_text.proofs.Laws.Marks.{look_order_lem, look_bound_lem, look_claims_lem, look_end_lem, look_none}

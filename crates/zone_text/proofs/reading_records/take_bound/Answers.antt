@@ -5,11 +5,9 @@ use borrow.Author.Tests.{not-true, not-false}
 use Rattle.meaning.specs.Text.ModelTable.{decode}
 use Rattle.zone_text.proofs.Laws.Orders.{took_wrong}
 use Rattle.zone_text.proofs.Laws.Bounds.{bound_due, bound_refused, bound_same, bound_low, bound_taken}
-use borrow.Author.Rules.{rules}
 use native.Mathlib.Omega.{arith}
 use Rattle.zone_text.proofs.reading_records.take_bound.Goals as goal
 
--- Assumes nothing.
 pub returns-then-not-x : goal.returns-then-not-x
 returns-then-not-x c =
     let a = c.args in

@@ -1,15 +1,12 @@
 -- `zone_text::reading_records::take_claims` meets its contract.
-use Prim.Native.Nat.{◌+◌, ◌≤◌}
 use mathlib.Core.Path.{◌∙◌}
 use borrow.Author.Tests.{not-true, not-false}
 use Rattle.meaning.specs.Text.ModelTable.{decode}
 use Rattle.zone_text.proofs.Laws.Orders.{took_wrong}
 use Rattle.zone_text.proofs.Laws.Claims.{begun_home, claims_due, claims_refused, claims_count, claims_zeros, claims_taken}
-use borrow.Author.Rules.{rules}
 use native.Mathlib.Omega.{arith}
 use Rattle.zone_text.proofs.reading_records.take_claims.Goals as goal
 
--- Assumes nothing.
 pub returns-then-not-x : goal.returns-then-not-x
 returns-then-not-x c =
     let a = c.args in

@@ -3,11 +3,9 @@ use mathlib.Core.Path.{sym, ◌∙◌}
 use borrow.Author.Tests.{not-true, not-false}
 use Rattle.zone_text.proofs.Laws.Orders.{took_wrong}
 use Rattle.zone_text.proofs.Laws.Ends.{took_closed, end_due, end_none, end_open, end_claims, end_more, end_closed}
-use borrow.Author.Rules.{rules}
 use native.Mathlib.Omega.{arith}
 use Rattle.zone_text.proofs.reading_records.take_end.Goals as goal
 
--- Assumes nothing.
 pub returns-then-x : goal.returns-then-x
 returns-then-x c =
     let a = c.args in

@@ -4,11 +4,9 @@ use borrow.Author.Tests.{not-true, not-false}
 use Rattle.meaning.specs.Text.ModelTable.{decode}
 use Rattle.model_table.proofs.PartLaws.{locations_is, tasks_is}
 use Rattle.zone_text.proofs.Laws.Orders.{took_wrong, order_due, order_full, order_refused, order_twice, order_taken}
-use borrow.Author.Rules.{rules}
 use native.Mathlib.Omega.{arith}
 use Rattle.zone_text.proofs.reading_records.take_order.Goals as goal
 
--- Assumes nothing.
 pub returns-then-x : goal.returns-then-x
 returns-then-x c =
     let a = c.args in

@@ -1,10 +1,8 @@
 -- `joined` meets its contract.
 use native.Mathlib.Omega.{arith}
 use Rattle.zone_text.proofs.Laws.Rows.{join_bad, join_in, join_out, outside_low, outside_high}
-use borrow.Author.Rules.{rules}
 use Rattle.zone_text.proofs.reading_rows.joined.Goals as goal
 
--- Assumes nothing.
 pub returns-then-r-eq4 : goal.returns-then-r-eq4
 returns-then-r-eq4 c =
     let a = c.args in

@@ -5,7 +5,6 @@ use native.Mathlib.Omega.{arith}
 use Rattle.meaning.specs.Text.Lines.{Range, fields}
 use Rattle.lines.specs.Meant.{Told}
 use Rattle.zone_text.proofs.Laws.Rows.{bound_below, bound_ranges_lem, bound_told}
-use borrow.Author.Rules.{rules}
 use Rattle.zone_text.proofs.reading_rows.read_bound.Goals as goal
 
 pub read_line-r-requires : goal.read_line-r-requires

@@ -7,7 +7,6 @@ use Rattle.meaning.proofs.Text.Places.{field_next}
 use Rattle.meaning.proofs.Text.NumeralSmall.{field_small}
 use Rattle.lines.specs.Meant.{meant}
 use Rattle.zone_text.proofs.Laws.Rows.{head_stuck, head_then, head_told}
-use borrow.Author.Rules.{rules}
 use Rattle.zone_text.proofs.reading_rows.read_order.Goals as goal
 
 pub overflow_add-t : goal.overflow_add-t

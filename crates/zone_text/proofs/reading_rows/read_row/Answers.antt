@@ -1,13 +1,11 @@
 -- `read_row` meets its contract.
-use Prim.Native.Nat.{◌-◌}
 use mathlib.Core.Path.{refl, sym, ap, ◌∙◌}
 use lib.ListN.{length, length-set}
 use Rattle.meaning.specs.Text.Lines.{outside}
 use Rattle.meaning.proofs.Text.Places.{in_text, field_next}
 use Rattle.meaning.proofs.Text.NumeralSmall.{field_small}
 use Rattle.lines.specs.Meant.{meant}
-use Rattle.zone_text.proofs.Laws.Rows.{Taking, taking_first, taking_ends, taking_out, taking_open, taking_bad, taking_more}
-use borrow.Author.Rules.{rules}
+use Rattle.zone_text.proofs.Laws.Rows.{taking_first, taking_ends, taking_out, taking_open, taking_bad, taking_more}
 use native.Mathlib.Omega.{arith}
 use Rattle.zone_text.proofs.reading_rows.read_row.Goals as goal
 use Rattle.zone_text.proofs.reading_rows.read_row.Goals.{then-k-room, else-k-room}

@@ -7,10 +7,8 @@ use mathlib.Core.Path.{sym}
 use Rattle.meaning.specs.Text.ProposalText.{bound_text}
 use Rattle.zone_table.specs.Kept.{kept_bound}
 use Rattle.zone_text.proofs.PutRows.{put_as, there_not, bound_put, bound_length_is}
-use borrow.Author.Rules.{rules}
 use Rattle.zone_text.proofs.writing.write_bound.Goals as goal
 
--- Assumes nothing.
 pub returns-then-v-eq0 : goal.returns-then-v-eq0
 returns-then-v-eq0 c = let a = c.args in put_as [] _ (sym (there_not a.v (bound_text (kept_bound a.i a.j (a.v - 1))) (omega arith))) (put_nothing _ _)
 

@@ -1,12 +1,9 @@
 -- `zone_text::writing::write_bounds` meets its contract.
 use Rattle.lines.proofs.Laws.Putting.{put_length}
-use Prim.Native.Nat.{ℕ, ◌+◌, ◌-◌, ◌≤◌}
-use mathlib.Core.Path.{◌≡◌, ◌∙◌, ap, refl}
-use lib.ListN.{length, get_or}
-use Rattle.lines.specs.Put.{Put}
-use Rattle.zone_table.proofs.RowLaws.{bound_row}
+use Prim.Native.Nat.{ℕ, ◌+◌, ◌-◌}
+use mathlib.Core.Path.{◌∙◌, ap, refl}
+use lib.ListN.{get_or}
 use Rattle.zone_text.proofs.PutRows.{bounds_put_all, bounds_put_none, bounds_put, bounds_room}
-use borrow.Author.Rules.{rules}
 use native.Mathlib.Omega.{arith}
 use Rattle.zone_text.proofs.writing.write_bounds.Goals as goal
 

@@ -1,16 +1,11 @@
 -- What the loops of `write_bounds` keep, and how they end.
-use Rattle.lines.proofs.Laws.Putting.{put_length}
-use Prim.Native.Nat.{ℕ, ◌+◌, ◌-◌, ◌≤◌}
-use mathlib.Core.Path.{◌≡◌, ◌∙◌, ap, refl}
-use lib.ListN.{length, get_or}
+use Prim.Native.Nat.{◌-◌, ◌≤◌}
+use mathlib.Core.Path.{◌≡◌}
+use lib.ListN.{length}
 use Rattle.lines.specs.Put.{Put}
 use Rattle.zone_table.proofs.RowLaws.{bound_row}
-use Rattle.zone_text.proofs.PutRows.{bounds_put_all, bounds_put_none, bounds_put, bounds_room}
-use borrow.Author.Rules.{rules}
-use native.Mathlib.Omega.{arith}
 use Rattle.zone_text.proofs.writing.write_bounds.Given as goal
 
--- Assumes nothing.
 abbrev pub invariant-loop-x : goal.invariant-loop-x
 invariant-loop-x l = (l.x ≤ 289) × (length l.buf ≡ length l.initial.buf) × Put l.initial.buf l.at (bound_row l.zones (l.zone - 1) l.x) l.buf l.p
 

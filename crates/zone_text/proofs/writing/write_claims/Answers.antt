@@ -3,10 +3,8 @@ use Prim.Native.Nat.{ℕ, ◌+◌, ◌-◌}
 use mathlib.Core.List.{map}
 use Rattle.meaning.specs.Text.ModelReader.{words}
 use Rattle.zone_text.proofs.PutRows.{claims_mark, claims_numbers, claims_feed, claims_line_put}
-use borrow.Author.Rules.{rules}
 use Rattle.zone_text.proofs.writing.write_claims.Goals as goal
 
--- Assumes nothing.
 pub write_mark-p-requires : goal.write_mark-p-requires
 write_mark-p-requires c = let a = c.args in claims_mark a.buf.now a.at (map (λ (x : ℕ). x - 1) (words a.zones.now (14256 + a.from) a.n)) c.requires
 

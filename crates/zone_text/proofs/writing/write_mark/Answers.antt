@@ -2,7 +2,6 @@
 use native.Mathlib.Omega.{arith}
 use lib.ListN.{length-set}
 use Rattle.zone_text.proofs.PutRows.{put_two}
-use borrow.Author.Rules.{rules}
 use Rattle.zone_text.proofs.writing.write_mark.Goals as goal
 
 pub bounds-buf-at-2 : goal.bounds-buf-at-2

@@ -1,12 +1,7 @@
 -- `zone_text::writing::write_numbers` meets its contract.
 use Rattle.lines.proofs.Laws.Putting.{put_length}
-use Prim.Native.Nat.{◌-◌, ◌≤◌}
-use mathlib.Core.Path.{◌≡◌, ◌∙◌, refl}
-use lib.ListN.{length}
-use Rattle.lines.specs.Put.{Put}
-use Rattle.zone_table.proofs.RowLaws.{claim_row}
+use mathlib.Core.Path.{◌∙◌, refl}
 use Rattle.zone_text.proofs.PutRows.{claims_put_all, claims_put_none, claims_put, claims_room}
-use borrow.Author.Rules.{rules}
 use native.Mathlib.Omega.{arith}
 use Rattle.zone_text.proofs.writing.write_numbers.Goals as goal
 

@@ -1,16 +1,11 @@
 -- What the loops of `write_numbers` keep, and how they end.
-use Rattle.lines.proofs.Laws.Putting.{put_length}
 use Prim.Native.Nat.{◌-◌, ◌≤◌}
-use mathlib.Core.Path.{◌≡◌, ◌∙◌, refl}
+use mathlib.Core.Path.{◌≡◌}
 use lib.ListN.{length}
 use Rattle.lines.specs.Put.{Put}
 use Rattle.zone_table.proofs.RowLaws.{claim_row}
-use Rattle.zone_text.proofs.PutRows.{claims_put_all, claims_put_none, claims_put, claims_room}
-use borrow.Author.Rules.{rules}
-use native.Mathlib.Omega.{arith}
 use Rattle.zone_text.proofs.writing.write_numbers.Given as goal
 
--- Assumes nothing.
 abbrev pub invariant-loop-x : goal.invariant-loop-x
 invariant-loop-x l = (l.x ≤ l.n) × (length l.buf ≡ length l.initial.buf) × Put l.initial.buf l.at (claim_row l.zones l.from l.x) l.buf l.p
 

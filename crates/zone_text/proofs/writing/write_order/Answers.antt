@@ -5,7 +5,6 @@ use lib.ListN.{length, get_or}
 use Rattle.meaning.specs.Text.ProposalTable.{order_in}
 use Rattle.meaning.specs.Text.ProposalText.{order_text}
 use Rattle.zone_text.proofs.PutRows.{put_as, order_mark, order_field, order_tasks, order_feed, order_put}
-use borrow.Author.Rules.{rules}
 use Rattle.zone_text.proofs.writing.write_order.Goals as goal
 
 pub write_mark-p-requires : goal.write_mark-p-requires

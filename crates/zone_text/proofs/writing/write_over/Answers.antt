@@ -4,7 +4,6 @@ use borrow.Author.Tests.{not-true, not-false}
 use Rattle.meaning.specs.Text.ModelTable.{decode}
 use Rattle.zone_table.proofs.Deciding.{ruled_out}
 use Rattle.zone_text.proofs.WroteLaws.{over_none, over_short, over_text}
-use borrow.Author.Rules.{rules}
 use Rattle.zone_text.proofs.writing.write_over.Goals as goal
 
 pub returns-then-not-is_proposal : goal.returns-then-not-is_proposal

@@ -2,7 +2,6 @@
 use borrow.Author.Tests.{not-true, not-false}
 use Rattle.model_table.proofs.GivenLaws.{given_table}
 use Rattle.zone_text.proofs.WroteLaws.{wrote_none, wrote_over}
-use borrow.Author.Rules.{rules}
 use Rattle.zone_text.proofs.writing.write_proposal.Goals as goal
 
 pub returns-then-not-is_model : goal.returns-then-not-is_model

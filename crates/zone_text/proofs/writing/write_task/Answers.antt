@@ -7,7 +7,6 @@ use mathlib.Core.List.{[]}
 use lib.ListN.{length}
 use Rattle.zone_table.specs.Kept.{field_text}
 use Rattle.zone_text.proofs.PutRows.{put_as, there_is, there_not}
-use borrow.Author.Rules.{rules}
 use Rattle.zone_text.proofs.writing.write_task.Goals as goal
 
 pub write_field-requires : goal.write_field-requires

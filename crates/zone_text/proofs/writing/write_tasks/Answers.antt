@@ -1,12 +1,9 @@
 -- `zone_text::writing::write_tasks` meets its contract.
 use Rattle.lines.proofs.Laws.Putting.{put_length}
-use Prim.Native.Nat.{ℕ, ◌+◌, ◌-◌, ◌≤◌}
-use mathlib.Core.Path.{◌≡◌, ◌∙◌, ap, refl}
-use lib.ListN.{length, get_or}
-use Rattle.lines.specs.Put.{Put}
-use Rattle.zone_table.proofs.RowLaws.{task_row}
+use Prim.Native.Nat.{ℕ, ◌+◌, ◌-◌}
+use mathlib.Core.Path.{◌∙◌, ap, refl}
+use lib.ListN.{get_or}
 use Rattle.zone_text.proofs.PutRows.{tasks_put_all, tasks_put_none, tasks_put, tasks_room}
-use borrow.Author.Rules.{rules}
 use native.Mathlib.Omega.{arith}
 use Rattle.zone_text.proofs.writing.write_tasks.Goals as goal
 

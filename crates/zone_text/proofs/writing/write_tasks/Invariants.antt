@@ -1,16 +1,11 @@
 -- What the loops of `write_tasks` keep, and how they end.
-use Rattle.lines.proofs.Laws.Putting.{put_length}
-use Prim.Native.Nat.{ℕ, ◌+◌, ◌-◌, ◌≤◌}
-use mathlib.Core.Path.{◌≡◌, ◌∙◌, ap, refl}
-use lib.ListN.{length, get_or}
+use Prim.Native.Nat.{◌-◌, ◌≤◌}
+use mathlib.Core.Path.{◌≡◌}
+use lib.ListN.{length}
 use Rattle.lines.specs.Put.{Put}
 use Rattle.zone_table.proofs.RowLaws.{task_row}
-use Rattle.zone_text.proofs.PutRows.{tasks_put_all, tasks_put_none, tasks_put, tasks_room}
-use borrow.Author.Rules.{rules}
-use native.Mathlib.Omega.{arith}
 use Rattle.zone_text.proofs.writing.write_tasks.Given as goal
 
--- Assumes nothing.
 abbrev pub invariant-loop-x : goal.invariant-loop-x
 invariant-loop-x l = (l.x ≤ 6) × (length l.buf ≡ length l.initial.buf) × Put l.initial.buf l.at (task_row l.zones (l.zone - 1) l.x) l.buf l.p
 

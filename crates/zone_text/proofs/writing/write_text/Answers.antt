@@ -1,12 +1,8 @@
 -- `zone_text::writing::write_text` meets its contract.
 use Rattle.lines.proofs.Laws.Putting.{put_length}
-use Prim.Native.Nat.{◌+◌, ◌-◌, ◌≤◌}
+use Prim.Native.Nat.{◌+◌, ◌-◌}
 use mathlib.Core.Path.{◌≡◌, ◌∙◌, refl}
-use lib.ListN.{length}
-use Rattle.lines.specs.Put.{Put}
-use Rattle.zone_table.proofs.RowLaws.{zone_row}
 use Rattle.zone_text.proofs.PutRows.{zones_put_none, zones_put, zones_room, end_room, end_put}
-use borrow.Author.Rules.{rules}
 use native.Mathlib.Omega.{arith}
 use Rattle.zone_text.proofs.writing.write_text.Goals as goal
 

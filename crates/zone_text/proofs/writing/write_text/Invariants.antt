@@ -1,16 +1,11 @@
 -- What the loops of `write_text` keep, and how they end.
-use Rattle.lines.proofs.Laws.Putting.{put_length}
-use Prim.Native.Nat.{◌+◌, ◌-◌, ◌≤◌}
-use mathlib.Core.Path.{◌≡◌, ◌∙◌, refl}
+use Prim.Native.Nat.{◌-◌, ◌≤◌}
+use mathlib.Core.Path.{◌≡◌}
 use lib.ListN.{length}
 use Rattle.lines.specs.Put.{Put}
 use Rattle.zone_table.proofs.RowLaws.{zone_row}
-use Rattle.zone_text.proofs.PutRows.{zones_put_none, zones_put, zones_room, end_room, end_put}
-use borrow.Author.Rules.{rules}
-use native.Mathlib.Omega.{arith}
 use Rattle.zone_text.proofs.writing.write_text.Given as goal
 
--- Assumes nothing.
 abbrev pub invariant-loop-k : goal.invariant-loop-k
 invariant-loop-k l = (l.k ≤ 48) × (length l.buf ≡ length l.initial.buf) × Put l.initial.buf 0 (zone_row l.zones l.k) l.buf l.p
 

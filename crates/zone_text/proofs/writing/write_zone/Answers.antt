@@ -7,7 +7,6 @@ use lib.ListN.{get_or}
 use Rattle.meaning.specs.Text.ProposalTable.{zone_in}
 use Rattle.meaning.specs.Text.ProposalText.{zone_text}
 use Rattle.zone_text.proofs.PutRows.{put_as, there_not, zone_order, zone_bounds, zone_claims, zone_put}
-use borrow.Author.Rules.{rules}
 use native.Mathlib.Omega.{arith}
 use Rattle.zone_text.proofs.writing.write_zone.Goals as goal
 

@@ -1,0 +1,17 @@
+-- What the loops of `write_jobs` keep, and how they end.
+use borrow.Author.Rules.{rules}
+use native.Mathlib.Omega.{arith}
+use Prim.Native.Nat.{◌-◌, ◌≤◌}
+use mathlib.Core.Path.{◌≡◌, refl, ◌∙◌}
+use lib.ListN.{length, take}
+use Rattle.lines.specs.Put.{Put}
+use Rattle.lines.proofs.Laws.Putting.{put_nothing}
+use Rattle.console.specs.Line.{spaced, job_numbers}
+use Rattle.console.proofs.LineLaws.{job_room, put_job, put_jobs}
+use Rattle.console.proofs.fields.write_jobs.Given as goal
+
+abbrev pub invariant-loop-k : goal.invariant-loop-k
+invariant-loop-k l = (l.k ≤ l.m) × (length l.buf ≡ length l.initial.buf) × Put l.initial.buf l.at (spaced (job_numbers (take l.k l.jobs))) l.buf l.p
+
+abbrev pub decreases-loop-k : goal.decreases-loop-k
+decreases-loop-k l = l.m - l.k

@@ -1,4 +1,5 @@
 -- A claimed bound against the reached entry: where the entry is not above it, the image of no solution breaks it; where it is, that of some solution does. And the smallest solution that breaks a bound.
+-- Assumes nothing.
 use mathlib.Core.Path.{◌≡◌, subst₂}
 use mathlib.Core.Bool.{Bool, true, false}
 use mathlib.Core.List.{List}

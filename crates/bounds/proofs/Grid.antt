@@ -1,4 +1,5 @@
 -- A double loop that stores one entry a turn, row by row, among the first n variables: what it has shown, of the index that it has reached.
+-- Assumes nothing.
 use mathlib.Core.Path.{◌≡◌, refl, ◌∙◌, subst, subst₂}
 use mathlib.Core.List.{List}
 use mathlib.Core.Logic.{inl, inr}

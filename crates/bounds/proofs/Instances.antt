@@ -1,4 +1,5 @@
 -- Tick, finish, reset and insertion are instances of one map: what each asks of p and off, that they take every solution to values not below 0, and what the image is. With n clocks, clocks are variables 1 to n; queue position k, from 1 on, has its running sum at n + 2k − 1 and its age at n + 2k.
+-- Assumes nothing.
 use mathlib.Core.Path.{◌≡◌, refl, sym, ◌∙◌, ap, subst}
 use mathlib.Core.Bool.{Bool, true, false}
 use Prim.Native.Nat.{ℕ, ◌+◌, ◌-◌, ◌*◌, ◌/◌, ◌%◌, ◌<◌, ◌≤◌}

@@ -1,4 +1,5 @@
 -- The laws that the proofs share, and the theorems that crates above cite.
+-- Assumes nothing.
 pub mod Signed
 pub mod Store
 pub mod Grid

@@ -1,4 +1,5 @@
 -- New variables for old: a is the old variable p a with off a added. The matrix r of the old bounds so moved is closed, and its solutions are the images of those of d. And how the range goes through `remap`.
+-- Assumes nothing.
 use mathlib.Core.Path.{◌≡◌, refl, sym, ap, ap₂, subst}
 use mathlib.Core.List.{List}
 use Prim.Native.Nat.{ℕ, ◌+◌, ◌-◌, ◌*◌, ◌<◌, ◌≤◌}

@@ -1,4 +1,5 @@
 -- Solutions of a closed matrix: the smallest one; the smallest one in which variable i is at least c above variable j; and that its entries are tight.
+-- Assumes nothing.
 use mathlib.Core.Path.{◌≡◌, refl, sym, subst}
 use mathlib.Core.Bool.{Bool, true, false}
 use Prim.Native.Nat.{ℕ, zero, suc, ◌+◌, ◌-◌, ◌<◌, ◌≤◌, max}

@@ -1,4 +1,5 @@
 -- The range of a closed matrix: where its solutions are those of a matrix whose bounds are at most B in size, its own bounds are at most n * B. And how the range goes through `top` and `tighten`.
+-- Assumes nothing.
 use mathlib.Core.Path.{◌≡◌, refl, sym, ap, subst}
 use mathlib.Core.List.{List}
 use mathlib.Core.Logic.{◌⊎◌, inl, inr}

@@ -1,4 +1,5 @@
 -- The bridge from i32 to arithmetic: z is over z − under z, two naturals of which one is 0. A law has no condition where it can, so that a list of them is all that `omega` wants.
+-- Assumes nothing.
 use mathlib.Core.Path.{◌≡◌, refl, sym, subst}
 use mathlib.Core.Bool.{Bool, true, false, not}
 use Prim.Native.Nat.{◌+◌, ◌^◌, ◌<◌, ◌≤◌}

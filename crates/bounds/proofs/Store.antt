@@ -1,4 +1,5 @@
 -- A loop that stores one element a turn, at k: what it has shown of every index passed, and that the others are as they were. And that an entry fits an i32.
+-- Assumes nothing.
 use mathlib.Core.Path.{◌≡◌, refl, sym, subst, ◌∙◌}
 use mathlib.Core.Bool.{true, false}
 use mathlib.Core.List.{List}

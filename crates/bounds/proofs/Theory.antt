@@ -1,4 +1,5 @@
 -- One bound more, c on i minus j, in a closed matrix d: the matrix e, each entry the least of the old one and the way over c, is closed where the way back over c is not below 0, and its solutions are those of d that meet the bound. And the matrix of which nothing is known.
+-- Assumes nothing.
 use mathlib.Core.Path.{◌≡◌, refl, ◌∙◌, ap, subst₂}
 use mathlib.Core.List.{List}
 use mathlib.Core.Logic.{◌⊎◌, inl, inr}

@@ -1,4 +1,5 @@
 -- Demand 3 over the printed line: if it is `OK n`, then both texts are read, and what acceptance promises holds of the model and the proposal in them.
+-- Assumes nothing.
 use Prim.Native.Nat.{ℕ}
 use mathlib.Core.Path.{◌≡◌, refl, sym, ◌∙◌, ap}
 use mathlib.Core.Bool.{Bool, true, false, not, ◌||◌}

@@ -1,4 +1,5 @@
 -- Laws of the check of two texts: what the readers and the check answered, and what is told then.
+-- Assumes nothing.
 use Prim.Native.Nat.{ℕ}
 use mathlib.Core.Path.{◌≡◌, refl, sym, subst}
 use mathlib.Core.List.{List}

@@ -1,4 +1,5 @@
 -- Laws of an edge by its number, and of the tasks that are released.
+-- Assumes nothing.
 use Prim.Native.Nat.{ℕ, zero, suc, ◌≤◌}
 use mathlib.Core.Path.{◌≡◌, refl, sym, ◌∙◌, ap, subst}
 use mathlib.Core.Bool.{Bool, false, cond, true≢false}

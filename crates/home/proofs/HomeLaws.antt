@@ -1,4 +1,5 @@
 -- Laws for those who ask: how long a queue order is and how many variables it has, and that each contract determines its result.
+-- Assumes nothing.
 use Prim.Native.Nat.{ℕ, zero, suc, ◌+◌, ◌-◌, ◌≤◌, ◌<◌}
 use mathlib.Core.Path.{◌≡◌, refl, sym, ◌∙◌, ap, ap₂}
 use mathlib.Core.Bool.{Bool, true, false}

@@ -1,4 +1,5 @@
 -- The laws that the proofs of this crate cite.
+-- Assumes nothing.
 pub mod Reading
 pub mod Stops
 pub mod Putting

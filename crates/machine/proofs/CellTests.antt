@@ -1,4 +1,5 @@
 -- Laws of the tests of single cells: each way through such a test.
+-- Assumes nothing.
 use Prim.Native.Nat.{ℕ, ◌≤◌, ◌<◌}
 use mathlib.Core.Path.{◌≡◌, refl, sym}
 use mathlib.Core.Bool.{Bool, true, false, true≢false}

@@ -1,4 +1,5 @@
 -- Laws of single jobs: late, the last tick, work and time left, who beats whom.
+-- Assumes nothing.
 use Prim.Native.Nat.{ℕ, suc, ◌+◌, ◌-◌, ◌≤◌, ◌<◌}
 use mathlib.Core.Path.{◌≡◌, sym, ◌∙◌, ap, ap₂}
 use mathlib.Core.Bool.{true, false, ◌&&◌, ◌||◌}

@@ -1,4 +1,5 @@
 -- Laws of the place of a new job in a lent list: what the walk has found at the end is what `place` promises.
+-- Assumes nothing.
 use Prim.Native.Nat.{ℕ, zero, suc, ◌+◌, ◌≤◌}
 use mathlib.Core.Path.{◌≡◌, refl, sym, ◌∙◌, ap, ap₂, subst}
 use mathlib.Core.Bool.{Bool, true, false, cond, ◌||◌}

@@ -1,4 +1,5 @@
 -- Laws of releases: the queue with a new job of each task, and the room for them.
+-- Assumes nothing.
 use Prim.Native.Nat.{ℕ, zero, suc, ◌+◌, ◌≤◌, ◌<◌}
 use mathlib.Core.Path.{◌≡◌, refl, sym, ◌∙◌, ap, ap₂}
 use mathlib.Core.List.{List, [], ◌∷◌, ◌++◌, Memᴰ}

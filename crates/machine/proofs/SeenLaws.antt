@@ -1,4 +1,5 @@
 -- Laws of a walk over a lent list of jobs: what it has found is what the list is like, up to where it has come.
+-- Assumes nothing.
 use Prim.Native.Nat.{ℕ, zero, suc, ◌+◌, ◌≤◌, ◌<◌}
 use mathlib.Core.Path.{◌≡◌, refl, sym, ◌∙◌, ap, subst}
 use mathlib.Core.Bool.{Bool, true, false, ◌&&◌, true≢false}

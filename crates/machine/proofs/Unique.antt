@@ -1,4 +1,5 @@
 -- Any two replies that the machine's contracts allow coincide.
+-- Assumes nothing.
 use Prim.Native.Nat.{ℕ, ◌≤◌}
 use mathlib.Core.Path.{◌≡◌, refl, sym, ◌∙◌, ap}
 use mathlib.Core.Bool.{Bool, true, false}

@@ -2,6 +2,7 @@
 -- All other proofs cite these laws and do not open the definitions, but for examples that compute; proofs/Releases.antt counts the places of what
 -- is released. The laws `overflows_is`, `behind_is`, `released_is`, `released_at_start_is`, `leaves_at_is` and `target_is` open theirs: each is for the one
 -- function of the code that asks it.
+-- Assumes nothing.
 use mathlib.Core.Path.{◌≡◌, refl, sym, ◌∙◌}
 use mathlib.Core.Bool.{Bool, true, false, not, cond, ◌&&◌, ◌||◌}
 use mathlib.Core.List.{List, [], ◌∷◌}

@@ -1,4 +1,5 @@
 -- Laws of signed numbers by their parts: over − under. `omega` reads only naturals, so a signed number stands in it by its two parts.
+-- Assumes nothing.
 use mathlib.Core.Path.{◌≡◌, refl, sym, ◌∙◌, ap}
 use mathlib.Core.Bool.{Bool, true, false, cond}
 use Prim.Native.Nat.{ℕ, zero, suc, ◌+◌, ◌-◌, ◌≤◌, ◌<◌}

@@ -1,5 +1,6 @@
 -- What comes of a list of releases: how many places they have, and the queue after them.
 -- Of the shut definitions it opens what an edge releases, and only to count its places.
+-- Assumes nothing.
 use Prim.Native.Nat.{ℕ, zero, suc, ◌+◌, ◌≤◌}
 use mathlib.Core.Path.{◌≡◌, ◌∙◌}
 use mathlib.Core.Bool.{Bool, true, false, cond}

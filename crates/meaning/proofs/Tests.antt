@@ -1,4 +1,5 @@
 -- Laws of tests: what a `Bool` that is true or false says.
+-- Assumes nothing.
 use mathlib.Core.Path.{◌≡◌, refl, sym, ◌∙◌, ap}
 use mathlib.Core.Bool.{Bool, true, false, not, ◌&&◌, ◌||◌, true≢false}
 use Prim.Native.Nat.{ℕ, ◌≤◌, ◌<◌}

@@ -1,4 +1,5 @@
 -- The laws and theorems of the texts.
+-- Assumes nothing.
 pub mod Choices
 pub mod Policies
 pub mod NumeralLaws

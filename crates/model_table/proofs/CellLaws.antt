@@ -1,4 +1,5 @@
 -- Laws of the cells of a task, a location and an edge by their numbers: where they stand, and that a number that names nothing reads 0.
+-- Assumes nothing.
 use Prim.Native.Nat.{ℕ, zero, suc, ◌+◌, ◌-◌, ◌*◌, ◌≤◌, ◌<◌}
 use mathlib.Core.Path.{◌≡◌, refl}
 use mathlib.Core.Bool.{false}

@@ -1,4 +1,5 @@
 -- The parts of a right table are those of the model that it holds, and its numbers are small.
+-- Assumes nothing.
 use Prim.Native.Nat.{ℕ, zero, suc, ◌≤◌, ◌<◌}
 use mathlib.Core.Path.{◌≡◌, refl, sym, ap}
 use mathlib.Core.List.{List}

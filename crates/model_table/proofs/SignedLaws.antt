@@ -1,4 +1,5 @@
 -- Laws of the number that a bound's cell keeps.
+-- Assumes nothing.
 use Prim.Native.Nat.{ℕ, ◌-◌, ◌≤◌, ◌<◌}
 use mathlib.Core.Path.{◌≡◌}
 use native.Mathlib.Omega.{arith}

@@ -1,4 +1,5 @@
 -- The entry that is read for a difference after the step decides how far apart two variables can come; and so at which positions a job can be late.
+-- Assumes nothing.
 use mathlib.Core.Path.{◌≡◌, sym, ◌∙◌, ap, subst}
 use mathlib.Core.List.{List}
 use mathlib.Core.Logic.{⊎_elim}

@@ -1,5 +1,6 @@
 -- Laws of the smallest solution of a step's matrix: it is the smallest valuation of the states that take the step, and its values are small; and likewise
 -- where two variables are so far apart.
+-- Assumes nothing.
 use mathlib.Core.Path.{◌≡◌, refl}
 use mathlib.Core.Bool.{Bool, true, false}
 use mathlib.Core.List.{List, [], ◌∷◌, ◌++◌}

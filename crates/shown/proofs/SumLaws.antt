@@ -1,4 +1,5 @@
 -- Laws of sums as the machine makes them: a value with a signed number added, and the bound between two variables as it stood before the step.
+-- Assumes nothing.
 use mathlib.Core.Path.{◌≡◌}
 use Prim.Native.Nat.{ℕ, ◌+◌, ◌≤◌}
 use native.Mathlib.Omega.{arith}

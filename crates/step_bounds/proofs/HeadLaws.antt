@@ -1,4 +1,5 @@
 -- Laws of the head: its slot, and the bound by which it goes on or finishes.
+-- Assumes nothing.
 use mathlib.Core.Path.{◌≡◌, refl, sym, subst}
 use mathlib.Core.List.{List, [], ◌∷◌}
 use Prim.Native.Nat.{ℕ, zero, suc, ◌<◌}

@@ -1,4 +1,5 @@
 -- What the ranges of a right model say of its numbers.
+-- Assumes nothing.
 use mathlib.Core.Path.{◌≡◌}
 use mathlib.Core.Bool.{Bool, true}
 use mathlib.Core.List.{List, [], ◌∷◌}

@@ -1,4 +1,5 @@
 -- Laws of the loops over a location's limits and over an edge's guard.
+-- Assumes nothing.
 use mathlib.Core.Path.{◌≡◌, refl, ap, subst}
 use mathlib.Core.Bool.{true, false}
 use mathlib.Core.List.{List, [], ◌∷◌, ◌++◌}

@@ -1,4 +1,5 @@
 -- Laws of the tests of who beats whom: a few lines for each policy; and of the bounds of a test.
+-- Assumes nothing.
 use mathlib.Core.Path.{◌≡◌, refl, sym, subst}
 use Prim.Native.Nat.{ℕ, ◌+◌, ◌≤◌, ◌<◌}
 use native.Mathlib.Omega.{arith}

@@ -1,4 +1,5 @@
 -- Laws of an edge that is entered: room for the new jobs, their places, and the plan.
+-- Assumes nothing.
 use mathlib.Core.Path.{◌≡◌, sym, ◌∙◌, ap, subst}
 use mathlib.Core.Bool.{false}
 use mathlib.Core.List.{List, Memᴰ}

@@ -1,4 +1,5 @@
 -- Laws of a step's plan: the slots by value, the queue order after the step, and the plan that the two tables make up.
+-- Assumes nothing.
 use mathlib.Core.Path.{◌≡◌, refl, sym, ◌∙◌, ap, ap₂, subst}
 use mathlib.Core.Bool.{Bool, true, false, cond}
 use mathlib.Core.List.{List, [], ◌∷◌, tail, Memᴰ}

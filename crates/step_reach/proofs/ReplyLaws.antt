@@ -1,4 +1,5 @@
 -- From a narrowed matrix and a plan to the right reply: each entry is the tightest bound of the states shown, or there is none.
+-- Assumes nothing.
 use mathlib.Core.Path.{◌≡◌, refl, sym, ◌∙◌, ap, subst}
 use mathlib.Core.Bool.{true, false, not}
 use mathlib.Core.List.{List, [], ◌∷◌}

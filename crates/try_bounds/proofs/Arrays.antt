@@ -1,4 +1,5 @@
 -- Arrays that stand in the source: what holds of each of the first indices holds of all of them; and the maps that the program uses, as instances of tick, finish, insertion and reset.
+-- Assumes nothing.
 use mathlib.Core.Path.{◌≡◌, refl, sym, ◌∙◌, ap, subst}
 use mathlib.Core.Bool.{Bool, true, false}
 use mathlib.Core.List.{List, ◌∷◌}

@@ -1,2 +1,3 @@
 -- The laws that the proofs share.
+-- Assumes nothing.
 pub mod Arrays

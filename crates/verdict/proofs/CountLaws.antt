@@ -1,4 +1,5 @@
 -- Where the obligations of a zone stand in the list of all: behind the start's and those of the zones before it.
+-- Assumes nothing.
 use mathlib.Core.Path.{◌≡◌, refl, sym, ◌∙◌, ap}
 use mathlib.Core.List.{List, [], ◌∷◌, ◌++◌, append_assoc, append-nil, tail}
 use mathlib.Core.Option.{some}

@@ -1,4 +1,5 @@
 -- The matrix and the plan of a step are those of each zone of this location and queue order that has the matrix the step was narrowed from.
+-- Assumes nothing.
 use mathlib.Core.Path.{◌≡◌, ap, subst}
 use mathlib.Core.Bool.{true, false}
 use mathlib.Core.List.{List}

@@ -1,4 +1,5 @@
 -- What is found of an obligation: that it holds, or how it fails.
+-- Assumes nothing.
 use mathlib.Core.Path.{◌≡◌, refl, sym, ◌∙◌, subst}
 use mathlib.Core.Option.{none, some}
 use Prim.Native.Nat.{ℕ}

@@ -1,4 +1,5 @@
 -- From what the functions find of a step's matrix to what they say of its obligation, kind by kind.
+-- Assumes nothing.
 use mathlib.Core.Path.{◌≡◌, refl, sym, ◌∙◌, ap, subst}
 use mathlib.Core.Logic.{inl, inr, ◌≢◌}
 use mathlib.Core.Bool.{Bool, true, false}

@@ -1,4 +1,5 @@
 -- What the functions of single kinds ask and give, where the values stand in tables and arrays.
+-- Assumes nothing.
 use mathlib.Core.Path.{◌≡◌, refl, sym, ◌∙◌, ap, subst}
 use mathlib.Core.Logic.{◌↔◌}
 use mathlib.Core.Bool.{Bool, true, false}

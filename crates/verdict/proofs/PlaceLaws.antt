@@ -1,4 +1,5 @@
 -- The obligation at a place of a zone: its step is that of the zone's list, and its claim that of the table.
+-- Assumes nothing.
 use mathlib.Core.Path.{◌≡◌, sym, ◌∙◌, ap, subst}
 use mathlib.Core.List.{List, [], ◌∷◌}
 use mathlib.Core.Option.{some}

@@ -1,5 +1,6 @@
 -- Demand 3 of the code's answer: on tables that it accepts, no run from the start, however long, misses a deadline, overflows, or leaves the
 -- proposed zones; and the number it gives is that of all obligations.
+-- Assumes nothing.
 use mathlib.Core.Path.{◌≡◌, sym, ◌∙◌, ap}
 use mathlib.Core.List.{List}
 use mathlib.Core.Option.{none}

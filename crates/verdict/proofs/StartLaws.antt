@@ -1,4 +1,5 @@
 -- Obligation 1: what is found of the start and zone 1, and what it says.
+-- Assumes nothing.
 use mathlib.Core.Path.{◌≡◌, refl, ◌∙◌, ap, subst}
 use mathlib.Core.Bool.{Bool, true, false}
 use mathlib.Core.List.{List, [], ◌∷◌, ◌++◌, map}

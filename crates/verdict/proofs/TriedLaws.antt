@@ -1,4 +1,5 @@
 -- The obligations that are tried, zone by zone: all that come before hold, and the first that fails is the answer.
+-- Assumes nothing.
 use mathlib.Core.Path.{◌≡◌, refl, sym, ◌∙◌, ap, subst}
 use mathlib.Core.List.{List}
 use mathlib.Core.Option.{Option, none, some}

@@ -1,4 +1,5 @@
 -- The obligations of a zone, tried place by place up to the first that fails.
+-- Assumes nothing.
 use mathlib.Core.Path.{◌≡◌, refl, subst}
 use mathlib.Core.Bool.{Bool, true, false, not}
 use mathlib.Core.Logic.{◌↔◌}

@@ -1,4 +1,5 @@
 -- Laws of the bounds of a zone as it is lent: its entries one by one.
+-- Assumes nothing.
 use Prim.Native.Nat.{ℕ, ◌+◌, ◌-◌, ◌/◌, ◌%◌, ◌≤◌, ◌<◌}
 use mathlib.Core.Path.{◌≡◌, sym, ◌∙◌, ap}
 use mathlib.Core.Bool.{true, not, true≢false}

@@ -1,4 +1,5 @@
 -- A zone that may be lent is one whose order and whose entries are right.
+-- Assumes nothing.
 use Prim.Native.Nat.{ℕ, suc, ◌-◌}
 use mathlib.Core.Path.{◌≡◌, sym, subst}
 use mathlib.Core.List.{List, [], ◌∷◌}

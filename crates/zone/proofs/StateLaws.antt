@@ -1,4 +1,5 @@
 -- What a state that may be lent says of its zone: the order of its queue, and the size of its bounds.
+-- Assumes nothing.
 use Prim.Native.Nat.{ℕ, zero, suc, ◌+◌, ◌≤◌, ◌<◌}
 use mathlib.Core.Path.{◌≡◌, refl, sym, ◌∙◌, ap, subst}
 use mathlib.Core.List.{List, [], ◌∷◌, map, Memᴰ}

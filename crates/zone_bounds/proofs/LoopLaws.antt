@@ -1,4 +1,5 @@
 -- One turn of the loops that narrow a matrix: over the queue, and over a table of bounds or limits.
+-- Assumes nothing.
 use mathlib.Core.Path.{◌≡◌, sym, ◌∙◌, ap, subst}
 use mathlib.Core.Bool.{Bool, true, false}
 use mathlib.Core.List.{List, [], ◌∷◌, ◌++◌, append-nil}

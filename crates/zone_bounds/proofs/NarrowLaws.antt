@@ -1,4 +1,5 @@
 -- Laws of narrowed matrices: the first, and one bound more.
+-- Assumes nothing.
 use mathlib.Core.Path.{◌≡◌, refl, subst}
 use mathlib.Core.Bool.{true, false}
 use mathlib.Core.List.{List, [], ◌∷◌, ◌++◌, append_assoc, append-nil}

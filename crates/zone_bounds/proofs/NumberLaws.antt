@@ -1,4 +1,5 @@
 -- Laws of differences: what the machine makes of them, and their size.
+-- Assumes nothing.
 use mathlib.Core.Path.{◌≡◌, ◌∙◌, ap₂}
 use Prim.Native.Nat.{ℕ, ◌≤◌}
 use native.Mathlib.Omega.{arith}

@@ -1,4 +1,5 @@
 -- The contracts of the matrix determine it: where the bounds are given, any two matrices narrowed by them coincide.
+-- Assumes nothing.
 use mathlib.Core.Path.{◌≡◌, refl, sym, ◌∙◌}
 use mathlib.Core.Bool.{Bool, true, false}
 use mathlib.Core.List.{List, ◌++◌}

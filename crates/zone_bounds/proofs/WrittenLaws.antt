@@ -1,4 +1,5 @@
 -- Laws of the bounds that are written in an array: which are, and their loop.
+-- Assumes nothing.
 use mathlib.Core.Path.{◌≡◌, refl, ap}
 use mathlib.Core.Bool.{Bool, true, false, not}
 use mathlib.Core.List.{List, [], ◌∷◌}

@@ -1,4 +1,5 @@
 -- Laws of one choice of positions: looked for position by position, and tested so.
+-- Assumes nothing.
 use mathlib.Core.Path.{◌≡◌, refl, sym, ◌∙◌, ap, subst}
 use mathlib.Core.List.{List, [], ◌∷◌, ◌++◌, append_assoc, append-nil, map, Memᴰ}
 use mathlib.Core.Option.{some}

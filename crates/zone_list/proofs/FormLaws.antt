@@ -1,4 +1,5 @@
 -- Laws of the form of a step: it is tested cell by cell, and one step has one form.
+-- Assumes nothing.
 use mathlib.Core.Path.{◌≡◌, refl, sym, ◌∙◌, ap, ap₂, subst}
 use mathlib.Core.Bool.{Bool, true, false}
 use mathlib.Core.List.{List}

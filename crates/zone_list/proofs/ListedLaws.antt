@@ -1,4 +1,5 @@
 -- Laws of the steps in the list: which edges are in it, with which positions, and that a step has one form.
+-- Assumes nothing.
 use mathlib.Core.Path.{◌≡◌, refl, sym, ◌∙◌, ap, subst}
 use mathlib.Core.Bool.{Bool, true, false, cond}
 use mathlib.Core.List.Memᴰ

@@ -1,4 +1,5 @@
 -- Laws of the step at a place: which it is, that it is in the list, and that it is the only one there.
+-- Assumes nothing.
 use mathlib.Core.Path.{◌≡◌, refl, sym, ◌∙◌, ap, subst}
 use mathlib.Core.Bool.{true, false}
 use mathlib.Core.List.{List, [], ◌∷◌, Memᴰ}

@@ -1,4 +1,5 @@
 -- The parts of a table that a text gives are those of the proposal that it holds, and a zone read by value is a zone of that proposal and may be lent.
+-- Assumes nothing.
 use Prim.Native.Nat.{ℕ, zero, suc, ◌+◌, ◌-◌, ◌*◌, ◌/◌, ◌%◌, ◌≤◌, ◌<◌}
 use mathlib.Core.Path.{◌≡◌, refl, sym, ◌∙◌, ap}
 use mathlib.Core.Bool.{Bool, true, false}

@@ -1,4 +1,5 @@
 -- The laws that the proofs of this crate cite.
+-- Assumes nothing.
 pub mod Marks
 pub mod Rows
 pub mod Orders

@@ -1,4 +1,5 @@
 -- Any two results that the reader's contract allows coincide.
+-- Assumes nothing.
 use Prim.Native.Nat.{ℕ}
 use mathlib.Core.Path.{◌≡◌, sym, ◌∙◌}
 use mathlib.Core.List.{List}

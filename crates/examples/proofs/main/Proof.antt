@@ -1,4 +1,5 @@
 -- `examples::main` is safe and ends: the measure is how many arguments are left.
+-- Assumes nothing.
 use Prim.Native.Nat.{◌≤◌, ◌-◌}
 use borrow.Author.Rules.{rules}
 use native.Mathlib.Omega.{arith}

@@ -1,4 +1,5 @@
 -- `examples::print_front` is safe.
+-- Assumes nothing.
 use mathlib.Core.Path.{sym}
 use native.Mathlib.Omega.{arith}
 use lib.Seq.{length-take-le}

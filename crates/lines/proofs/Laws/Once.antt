@@ -1,4 +1,5 @@
 -- Any two results that a contract of this crate allows coincide.
+-- Assumes nothing.
 use mathlib.Core.Path.{◌≡◌, sym, ◌∙◌}
 use mathlib.Core.List.{List}
 use Prim.Native.Nat.{ℕ}

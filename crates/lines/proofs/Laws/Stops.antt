@@ -1,4 +1,5 @@
 -- The first comma or full stop, place by place.
+-- Assumes nothing.
 use Prim.Native.Nat.{ℕ, ◌+◌, ◌≤◌, ◌<◌, suc}
 use mathlib.Core.Path.{◌≡◌}
 use mathlib.Core.List.{List}

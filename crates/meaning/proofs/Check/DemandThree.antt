@@ -1,4 +1,5 @@
 -- Demand 3: what an accepted proposal promises of every run.
+-- Assumes nothing.
 use mathlib.Core.Path.{◌≡◌, refl, sym, ◌∙◌, subst}
 use mathlib.Core.Bool.{true}
 use mathlib.Core.List.Memᴰ

@@ -1,4 +1,5 @@
 -- Obligation 1: it holds, or it fails by kind 4 or 5, with the start state.
+-- Assumes nothing.
 use mathlib.Core.Path.{◌≡◌, refl, sym, subst}
 use mathlib.Core.Logic.{◌⊎◌, inl, inr}
 use mathlib.Core.Option.{Option, some}

@@ -1,5 +1,6 @@
 -- Model A: "A with A prints `OK 7`", and with `BD 1 0 4` it prints `NO 5 2 1 5 1 5`. So the definitions hold of something, and a failure
 -- says what it should.
+-- Assumes nothing.
 use mathlib.Core.Path.{◌≡◌, refl, sym, ◌∙◌, ap, ap₂, subst}
 use mathlib.Core.Logic.{inl, inr}
 use mathlib.Core.Bool.{Bool, true, false, ◌&&◌}

@@ -1,4 +1,5 @@
 -- The console checks marked (P), proved together by computation.
+-- Assumes nothing.
 use mathlib.Core.Path.{refl}
 use Rattle.meaning.specs.Model.{leaves_at, target, released, released_at_start}
 use Rattle.meaning.specs.Machine.Place.{beats_by, beats, behind}

@@ -1,4 +1,5 @@
 -- Bounds over a valuation of the variables, and lists of bounds: met by a valuation, and among the first n variables.
+-- Assumes nothing.
 use mathlib.Core.Path.{◌≡◌, refl, sym, subst}
 use mathlib.Core.Logic.{◌↔◌}
 use mathlib.Core.Bool.{Bool, true, false, true≢false}

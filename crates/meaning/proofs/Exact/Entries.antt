@@ -1,5 +1,6 @@
 -- The tightest bound (i, j) of the states that a step shows is the best bound before the step between the variables from i and from j,
 -- moved: so every entry of a right reply comes from one entry from before. At an overflow the plan leaves all where it stands.
+-- Assumes nothing.
 use mathlib.Core.Path.{◌≡◌, refl, sym, ap, subst}
 use mathlib.Core.Logic.{◌↔◌, ◌⊎◌, inl}
 use mathlib.Core.Bool.{true, false}

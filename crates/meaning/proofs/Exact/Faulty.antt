@@ -1,5 +1,6 @@
 -- From what a scan of one obligation finds to what it says: that it holds, or by what kind it fails, with the smallest state at fault. What
 -- is found is said of valuations before the step: that there are none, the smallest, the smallest in which two variables are so far apart.
+-- Assumes nothing.
 use mathlib.Core.Path.{◌≡◌, refl, sym, ◌∙◌, subst}
 use mathlib.Core.Logic.{◌↔◌, ◌⊎◌, inl, inr, ◌≢◌}
 use mathlib.Core.Bool.{true, false}

@@ -1,4 +1,5 @@
 -- A reached job is late exactly if its age is at least D, so that it is a bound: no reached job is older than its D.
+-- Assumes nothing.
 use mathlib.Core.Path.{◌≡◌, refl, sym, ◌∙◌, ap, subst}
 use mathlib.Core.Logic.{◌↔◌, ⊎_elim}
 use mathlib.Core.Bool.{Bool, true, false, cond}

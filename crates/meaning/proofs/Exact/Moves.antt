@@ -1,4 +1,5 @@
 -- Where a step takes the variables: each variable after it is one from before, moved by a fixed amount. At an overflow all stay.
+-- Assumes nothing.
 use mathlib.Core.Path.{◌≡◌, refl, sym, ◌∙◌, ap, subst}
 use mathlib.Core.Logic.{◌≢◌}
 use mathlib.Core.Bool.{Bool, true, false, cond, ◌||◌}

@@ -1,4 +1,5 @@
 -- The plan of a step stays among the zone's variables; and what its tables hold, place by place.
+-- Assumes nothing.
 use mathlib.Core.Path.{◌≡◌, refl, sym, ◌∙◌, ap, subst}
 use mathlib.Core.Bool.{Bool, true, false, cond}
 use mathlib.Core.List.{List, [], ◌∷◌, tail}

@@ -1,5 +1,6 @@
 -- The states that one step shows of a zone are exactly those of the valuations that meet the zone's bounds and the step's, moved: the
 -- reached ones, or at an overflow the states that meet the guard, as they stand.
+-- Assumes nothing.
 use mathlib.Core.Path.{◌≡◌, refl, sym, ◌∙◌, ap, subst}
 use mathlib.Core.Logic.{◌↔◌, inl, inr}
 use mathlib.Core.Bool.{Bool, true, false, cond}

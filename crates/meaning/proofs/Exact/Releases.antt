@@ -1,5 +1,6 @@
 -- The places that released jobs take: a state's queue has them there exactly if its valuation meets the bounds of these places; and where
 -- the new queue then stands in the valuation from before. For any number of releases.
+-- Assumes nothing.
 use mathlib.Core.Path.{◌≡◌, refl, sym, ◌∙◌, ap, ap₂, subst}
 use mathlib.Core.Logic.{◌↔◌}
 use mathlib.Core.Bool.{Bool, true, false, cond, true≢false}

@@ -1,5 +1,6 @@
 -- The smallest state that a step shows is the smallest valuation before it, moved; and likewise the smallest in which variable i is at
 -- least c above variable j.
+-- Assumes nothing.
 use mathlib.Core.Path.{◌≡◌, refl}
 use mathlib.Core.Logic.{◌↔◌, inl, inr}
 use mathlib.Core.Bool.{true, false}

@@ -1,5 +1,6 @@
 -- A set of valuations made from a list of bounds, one bound after the other, as a matrix is tightened; and what is found of such a set
 -- holds of the valuations of a zone's step.
+-- Assumes nothing.
 use mathlib.Core.Path.{◌≡◌, sym, subst}
 use mathlib.Core.Logic.{◌↔◌}
 use mathlib.Core.List.{List, [], ◌∷◌, ◌++◌}

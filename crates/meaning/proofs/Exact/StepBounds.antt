@@ -1,4 +1,5 @@
 -- A state of a location and queue order takes a step exactly if its valuation meets the step's bounds.
+-- Assumes nothing.
 use mathlib.Core.Path.{◌≡◌, refl, sym, ◌∙◌, ap, subst}
 use mathlib.Core.Logic.{◌↔◌}
 use mathlib.Core.Bool.{Bool, true, not, ◌&&◌}

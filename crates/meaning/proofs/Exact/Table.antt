@@ -1,4 +1,5 @@
 -- The bounds of some steps and their plans, worked out: one table under one statement.
+-- Assumes nothing.
 use mathlib.Core.Path.{◌≡◌, refl}
 use mathlib.Core.List.{List, [], ◌∷◌}
 use Prim.Native.Nat.{ℕ}

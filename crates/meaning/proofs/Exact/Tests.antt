@@ -1,5 +1,6 @@
 -- Who beats whom, as a test of the valuation: the policy's test holds exactly if the new job beats the queued one, and it holds, and fails,
 -- exactly where its bounds are met. One line for each policy; everything else that speaks of who beats whom is over these laws.
+-- Assumes nothing.
 use mathlib.Core.Path.{◌≡◌, refl, sym, ◌∙◌, subst}
 use mathlib.Core.Logic.{◌↔◌}
 use mathlib.Core.Bool.{Bool, true, false, cond, ◌&&◌, ◌||◌, true≢false}

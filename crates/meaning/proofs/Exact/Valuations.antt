@@ -1,5 +1,6 @@
 -- The states of a location and queue order are one to one with the valuations of their variables that meet the bounds of properness; a
 -- zone's states are those whose variables meet its bounds too.
+-- Assumes nothing.
 use mathlib.Core.Path.{◌≡◌, refl, sym, ◌∙◌, ap, ap₂, subst}
 use mathlib.Core.Logic.{◌↔◌}
 use mathlib.Core.Bool.{true}

@@ -1,4 +1,5 @@
 -- The place of a new job: in front of the first that it beats, and no other; and every release takes a place of the list.
+-- Assumes nothing.
 use mathlib.Core.Path.{◌≡◌, refl, sym, ◌∙◌, ap}
 use mathlib.Core.Bool.{Bool, true, false, cond, true≢false}
 use mathlib.Core.List.{List, [], ◌∷◌, map, Memᴰ}

@@ -1,4 +1,5 @@
 -- A step without a miss and without an overflow takes a proper state to a proper state.
+-- Assumes nothing.
 use mathlib.Core.Path.{◌≡◌, refl, sym, ◌∙◌, ap, ap₂, subst}
 use mathlib.Core.Logic.{⊎_elim}
 use mathlib.Core.Bool.{Bool, true, false, not, cond, ◌||◌, true≢false}

@@ -1,4 +1,5 @@
 -- A delay of n ticks is n ticks one after the other, and the limits hold at every one of them exactly if they hold at the last.
+-- Assumes nothing.
 use mathlib.Core.Path.{◌≡◌, refl, sym, ◌∙◌, ap, ap₂}
 use mathlib.Core.Logic.{◌↔◌}
 use mathlib.Core.Bool.{Bool, true, false, cond}

@@ -1,4 +1,5 @@
 -- Of the jobs of one task the older stands in front, in every state of every run of any model: a release goes behind them all, and a tick keeps it.
+-- Assumes nothing.
 use mathlib.Core.Path.{◌≡◌, sym, ◌∙◌, ap, subst}
 use mathlib.Core.Logic.{⊎_elim}
 use mathlib.Core.Bool.{Bool, true, false}

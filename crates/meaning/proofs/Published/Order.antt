@@ -1,4 +1,5 @@
 -- Insertion agrees with 000's sorting on queues that stand in order, and every run's queue stands in order.
+-- Assumes nothing.
 use mathlib.Core.Path.{◌≡◌, refl, sym, ◌∙◌, ap, subst, fun_ext}
 use mathlib.Core.Logic.{◌⊎◌, inl, inr, ⊎_elim, ◌↔◌}
 use mathlib.Core.Bool.{Bool, true, false, ◌&&◌, ◌||◌}

@@ -1,4 +1,5 @@
 -- Under every policy no job of a run's queue is ahead of one in front of it: a release and a tick keep that, of any model. So SJF runs the shortest.
+-- Assumes nothing.
 use mathlib.Core.Path.{◌≡◌, sym, ◌∙◌, ap, subst}
 use mathlib.Core.Bool.{Bool, true, false, not}
 use mathlib.Core.List.{List, [], ◌∷◌, map, Memᴰ}

@@ -1,4 +1,5 @@
 -- Lists in order under any strict order: there is one order of given elements, and insertion keeps it.
+-- Assumes nothing.
 use mathlib.Core.Path.{◌≡◌, refl, sym, ◌∙◌, ap, ap₂, subst}
 use mathlib.Core.Logic.{◌⊎◌, inl, inr, ⊎_elim}
 use mathlib.Core.Bool.{Bool, true, false, cond, true≢false}

@@ -1,4 +1,5 @@
 -- Bounds: a signed number and what is kept of it, each tells the other; and bounds row by row are bounds in the order of their keys.
+-- Assumes nothing.
 use Prim.Native.Nat.{◌*◌, ◌+◌, ◌-◌, ◌<◌, ◌≤◌, suc, zero, ℕ}
 use mathlib.Core.Bool.{Bool, ◌&&◌, false, true}
 use mathlib.Core.List.{List, [], ◌++◌, ◌∷◌}

@@ -1,4 +1,5 @@
 -- Laws of choices and tests: one case after the other.
+-- Assumes nothing.
 use Prim.Native.Nat.{◌<◌, ◌≤◌, ℕ}
 use mathlib.Core.Bool.{Bool, ◌&&◌, ◌||◌, false, true}
 use mathlib.Core.Path.{◌≡◌, refl}

@@ -1,4 +1,5 @@
 -- Texts without a comma or a full stop, and what the whole text is held to before its records.
+-- Assumes nothing.
 use Prim.Native.Nat.{◌%◌, ◌+◌, ◌-◌, ◌/◌, ◌<◌, ◌≤◌, suc, zero, ℕ}
 use mathlib.Core.Bool.{false}
 use mathlib.Core.List.{List, [], ◌++◌, ◌∷◌}

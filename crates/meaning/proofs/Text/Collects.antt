@@ -1,4 +1,5 @@
 -- Laws of what is collected from the numbers below n: each is so, they stand in order, how many there are, and which.
+-- Assumes nothing.
 use Prim.Native.Nat.{◌*◌, ◌+◌, ◌<◌, suc, zero, ℕ}
 use mathlib.Core.Bool.{Bool, false, true}
 use mathlib.Core.List.Memᴰ

@@ -1,4 +1,5 @@
 -- Document 01's console checks of texts, on the definitions: Model A, and the four refused TK lines.
+-- Assumes nothing.
 use Prim.Native.Nat.{ℕ}
 use mathlib.Core.List.{List, [], ◌∷◌}
 use mathlib.Core.Option.{Option, none, some}

@@ -1,4 +1,5 @@
 -- A line of numbers that was read is what it is written as, and a line that was written is read.
+-- Assumes nothing.
 use Prim.Native.Nat.{◌+◌, ◌-◌, ◌<◌, ◌≤◌, ℕ}
 use mathlib.Core.Bool.{Bool, false, true}
 use mathlib.Core.List.{List, [], ◌++◌, ◌∷◌, append_assoc}

@@ -1,4 +1,5 @@
 -- The table of a model that a text can say holds that model.
+-- Assumes nothing.
 use Prim.Native.Nat.{◌%◌, ◌*◌, ◌+◌, ◌-◌, ◌/◌, ◌<◌, ◌≤◌, suc, zero, ℕ}
 use mathlib.Core.List.{List}
 use mathlib.Core.Option.{none, some}

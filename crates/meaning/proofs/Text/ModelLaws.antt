@@ -1,4 +1,5 @@
 -- The model text is lawful: what is read is what is written, both ways.
+-- Assumes nothing.
 use Prim.Native.Nat.{◌%◌, ◌*◌, ◌+◌, ◌-◌, ◌/◌, ◌<◌, ◌≤◌, suc, zero, ℕ}
 use mathlib.Core.Bool.{Bool, ◌&&◌, false, true}
 use mathlib.Core.List.{List, [], ◌++◌, ◌∷◌, map}

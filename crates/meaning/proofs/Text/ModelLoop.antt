@@ -1,4 +1,5 @@
 -- The reader's loop: what holds before each record, and one law for each way out of a turn.
+-- Assumes nothing.
 use Prim.Native.Nat.{◌+◌, ◌-◌, ◌<◌, ◌≤◌, suc, ℕ}
 use mathlib.Core.Bool.{◌&&◌}
 use mathlib.Core.List.{List}

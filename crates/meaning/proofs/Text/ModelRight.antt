@@ -1,4 +1,5 @@
 -- The model that a proper table holds is one that a text can say.
+-- Assumes nothing.
 use Prim.Native.Nat.{◌%◌, ◌*◌, ◌+◌, ◌-◌, ◌/◌, ◌<◌, ◌≤◌, suc, zero, ℕ}
 use mathlib.Core.Bool.{◌&&◌, ◌||◌, false, true}
 use mathlib.Core.List.{List}

@@ -1,4 +1,5 @@
 -- Only IV, GU and RS can be out of order: a PO, CK, TK, LO or ED that may stand goes behind all that was read.
+-- Assumes nothing.
 use Prim.Native.Nat.{◌*◌, ◌+◌, ◌<◌, ◌≤◌, suc, zero, ℕ}
 use mathlib.Core.Bool.{Bool, ◌&&◌, false, true}
 use mathlib.Core.List.{List, [], ◌∷◌}

@@ -1,4 +1,5 @@
 -- What a table that some text gives is like: nothing stands in it without what it stands under.
+-- Assumes nothing.
 use Prim.Native.Nat.{◌*◌, ◌+◌, ◌-◌, ◌<◌, ◌≤◌, suc, zero, ℕ}
 use mathlib.Core.Bool.{Bool, false, true}
 use mathlib.Core.List.{List, []}

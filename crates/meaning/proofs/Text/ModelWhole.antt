@@ -1,4 +1,5 @@
 -- The model's reader as it is called, and the writer: each is the other's inverse. No table's text is long, or has a comma or a full stop.
+-- Assumes nothing.
 use Prim.Native.Nat.{◌%◌, ◌*◌, ◌+◌, ◌-◌, ◌/◌, ◌≤◌, suc, zero, ℕ}
 use mathlib.Core.Bool.{false}
 use mathlib.Core.List.{List, [], ◌++◌, ◌∷◌, map}

@@ -1,4 +1,5 @@
 -- Laws of a number of a text: one for each case of the reading, and where it ends.
+-- Assumes nothing.
 use Prim.Native.Nat.{◌+◌, ◌<◌, ◌≤◌, ℕ}
 use mathlib.Core.Bool.{Bool, false, true}
 use mathlib.Core.List.{List, [], ◌∷◌}

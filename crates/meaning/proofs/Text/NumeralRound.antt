@@ -1,4 +1,5 @@
 -- A number that was written is read back, and a number that was read is what would be written.
+-- Assumes nothing.
 use Prim.Native.Nat.{◌%◌, ◌*◌, ◌+◌, ◌-◌, ◌/◌, ◌<◌, ◌^◌, ◌≤◌, suc, zero, ℕ}
 use mathlib.Core.Bool.{Bool, false, true}
 use mathlib.Core.List.{List, [], ◌++◌, ◌∷◌, append_assoc, append-nil}

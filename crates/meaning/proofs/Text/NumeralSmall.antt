@@ -1,4 +1,5 @@
 -- A number that was read is at most tooLarge.
+-- Assumes nothing.
 use Prim.Native.Nat.{◌+◌, ◌≤◌, ℕ}
 use mathlib.Core.Bool.{Bool, false}
 use mathlib.Core.List.{List, [], ◌∷◌}

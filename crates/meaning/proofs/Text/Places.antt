@@ -1,4 +1,5 @@
 -- What stands at a place of a text, and a field that is read and written there.
+-- Assumes nothing.
 use Prim.Native.Nat.{◌+◌, ◌<◌, ◌≤◌, suc, ℕ}
 use mathlib.Core.Bool.{Bool, ◌&&◌, false, true}
 use mathlib.Core.List.{List, [], ◌++◌, ◌∷◌}

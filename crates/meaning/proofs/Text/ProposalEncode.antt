@@ -1,4 +1,5 @@
 -- The table of a proposal that a text can say holds that proposal.
+-- Assumes nothing.
 use Prim.Native.Nat.{◌%◌, ◌*◌, ◌+◌, ◌-◌, ◌/◌, ◌<◌, ◌≤◌, suc, zero, ℕ}
 use mathlib.Core.List.{List, [], ◌++◌, ◌∷◌, append_assoc, append-nil, map}
 use mathlib.Core.Option.{Option, none, some}

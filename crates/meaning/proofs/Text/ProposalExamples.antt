@@ -1,4 +1,5 @@
 -- Document 01's console checks of proposal texts, on the definitions: Proposal A over Model A, and a refused text for each refusal.
+-- Assumes nothing.
 use Prim.Native.Nat.{ℕ, suc, zero}
 use mathlib.Core.Bool.{false, true}
 use mathlib.Core.List.{List, [], ◌++◌, ◌∷◌}

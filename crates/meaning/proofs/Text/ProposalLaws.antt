@@ -1,4 +1,5 @@
 -- The proposal text is lawful: what is read is what is written, both ways.
+-- Assumes nothing.
 use Prim.Native.Nat.{◌+◌, ◌-◌, ◌<◌, ◌≤◌, ℕ}
 use mathlib.Core.Bool.{Bool, ◌&&◌, false, not, true}
 use mathlib.Core.List.{List, [], ◌++◌, ◌∷◌, tail}

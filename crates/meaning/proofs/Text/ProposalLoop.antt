@@ -1,4 +1,5 @@
 -- The loop of the proposal's reader: each record ends within the text, and each is stored by setting a few cells of the table so far.
+-- Assumes nothing.
 use Prim.Native.Nat.{◌*◌, ◌+◌, ◌-◌, ◌<◌, ◌≤◌, ℕ}
 use mathlib.Core.List.{List, [], ◌++◌, ◌∷◌, tail}
 use mathlib.Core.Path.{◌∙◌, ◌≡◌, ap, sym}

@@ -1,4 +1,5 @@
 -- The proposals that the records of a text give are just those that a text can say, and the text is theirs.
+-- Assumes nothing.
 use Prim.Native.Nat.{◌+◌, ◌-◌, ◌<◌, ◌≤◌, ℕ}
 use mathlib.Core.Bool.{true}
 use mathlib.Core.List.{List, [], ◌++◌, ◌∷◌, append_assoc, append-nil, map}

@@ -1,4 +1,5 @@
 -- Storing a record: the table of what was read, with the record behind it, is the table before with a few cells set.
+-- Assumes nothing.
 use Prim.Native.Nat.{◌%◌, ◌*◌, ◌+◌, ◌-◌, ◌/◌, ◌<◌, ◌≤◌, suc, zero, ℕ}
 use mathlib.Core.List.{List, [], ◌++◌, ◌∷◌, append_assoc, append-nil, map}
 use mathlib.Core.Option.{none, some}

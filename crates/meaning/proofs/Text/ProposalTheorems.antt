@@ -1,4 +1,5 @@
 -- The theorems of the proposal's text: what is read, what is written, what a table stands for, and which tables are refused by 13.
+-- Assumes nothing.
 use Prim.Native.Nat.{◌<◌, ◌≤◌, ℕ}
 use mathlib.Core.Bool.{Bool, true}
 use mathlib.Core.List.{List}

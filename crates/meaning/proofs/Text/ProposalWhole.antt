@@ -1,4 +1,5 @@
 -- The proposal's reader as it is called: what it answers done to. No proposal's text has a comma or a full stop, and its claims fit the pool.
+-- Assumes nothing.
 use Prim.Native.Nat.{◌*◌, ◌≤◌, ℕ}
 use mathlib.Core.Bool.{Bool, true}
 use mathlib.Core.List.{List, [], ◌++◌, ◌∷◌, map}

@@ -1,5 +1,6 @@
 -- Reading a text of records and writing it: each is the other's inverse, and what a text gives is told without the text.
 -- Proved once, for any text of records that is lawful.
+-- Assumes nothing.
 use Prim.Native.Nat.{◌+◌, ◌-◌, ◌<◌, ◌≤◌, suc, zero, ℕ}
 use mathlib.Core.Bool.{Bool, false, true}
 use mathlib.Core.List.{List, [], ◌++◌, append_assoc, append-nil}

@@ -1,4 +1,5 @@
 -- The first i slots of a proper thing: just those.
+-- Assumes nothing.
 use Prim.Native.Nat.{◌<◌, ◌≤◌, suc, zero, ℕ}
 use mathlib.Core.Bool.{Bool, false, true}
 use mathlib.Core.Path.{◌∙◌, ◌≡◌, refl, sym}

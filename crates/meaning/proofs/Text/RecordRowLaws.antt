@@ -1,5 +1,6 @@
 -- Reading a text of records that are put one behind the other: it answers done exactly for the lines of records that may stand so, and EN.
 -- Proved once, for any such text that is lawful.
+-- Assumes nothing.
 use Prim.Native.Nat.{◌+◌, ◌<◌, ◌≤◌, suc, zero, ℕ}
 use mathlib.Core.List.{List, [], ◌++◌, ◌∷◌, append_assoc}
 use mathlib.Core.Path.{◌∙◌, ◌≡◌, ap, refl, subst, sym}

@@ -1,4 +1,5 @@
 -- The reader's loop over a text of records that are put one behind the other: what holds before each record, and one law for each way out of a turn.
+-- Assumes nothing.
 use Prim.Native.Nat.{◌+◌, ◌-◌, ◌<◌, ◌≤◌, suc, ℕ}
 use mathlib.Core.List.{List}
 use mathlib.Core.Path.{◌∙◌, ◌≡◌, ap, refl, sym}

@@ -1,4 +1,5 @@
 -- Laws for the writers of numbers: one for each case, and one run of stores after another.
+-- Assumes nothing.
 use Prim.Native.Nat.{◌%◌, ◌+◌, ◌-◌, ◌/◌, ◌<◌, ◌≤◌, suc, zero, ℕ}
 use mathlib.Core.Bool.{Bool, false, true}
 use mathlib.Core.List.{List, [], ◌++◌, ◌∷◌}

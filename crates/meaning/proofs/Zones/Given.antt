@@ -1,4 +1,5 @@
 -- The widest zone holds exactly the proper states of its location and queue order, and the zone of a proper state exactly that state.
+-- Assumes nothing.
 use mathlib.Core.Path.{◌≡◌, refl, sym, ◌∙◌, ap, subst}
 use mathlib.Core.Logic.{◌↔◌}
 use mathlib.Core.Bool.{true}

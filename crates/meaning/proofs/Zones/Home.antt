@@ -1,4 +1,5 @@
 -- Every reached state lies at the step's home, and a state is its home and its variables.
+-- Assumes nothing.
 use mathlib.Core.Path.{◌≡◌, refl, sym, ◌∙◌, ap, ap₂, subst}
 use mathlib.Core.Bool.{Bool, true, false, cond}
 use mathlib.Core.List.{List, [], ◌∷◌, ◌++◌, tail, List-discrete, nil≢cons, head-eq_of_cons-eq, tail-eq_of_cons-eq}

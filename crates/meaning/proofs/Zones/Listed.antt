@@ -1,4 +1,5 @@
 -- Every allowed event has its step in the list of the zone's steps.
+-- Assumes nothing.
 use mathlib.Core.Path.{◌≡◌, refl, subst}
 use mathlib.Core.Bool.{Bool, true, false}
 use mathlib.Core.List.{List, [], ◌∷◌, Memᴰ}

@@ -1,4 +1,5 @@
 -- Every state that an event is allowed at falls in exactly one place of the zone's list.
+-- Assumes nothing.
 use mathlib.Core.Path.{◌≡◌, refl, sym, ◌∙◌, ap}
 use mathlib.Core.Bool.{Bool, true, false, cond}
 use mathlib.Core.List.Memᴰ

@@ -1,4 +1,5 @@
 -- Any two tightest bounds coincide, and so do any two right replies of a zone's step.
+-- Assumes nothing.
 use mathlib.Core.Path.{◌≡◌, refl, sym, ◌∙◌, ap, subst}
 use mathlib.Core.Logic.{inl, inr}
 use mathlib.Core.Bool.{Bool, true, false}

@@ -1,4 +1,5 @@
 -- What a record's answer tells of the record, and the reader's answer for each case.
+-- Assumes nothing.
 use Prim.Native.Nat.{ℕ, suc, ◌≤◌, ◌<◌}
 use mathlib.Core.Path.{◌≡◌, refl, sym, ap, ◌∙◌, subst}
 use mathlib.Core.List.{List}

@@ -1,4 +1,5 @@
 -- Any two results that the reader's contract allows coincide, and any two that the writer's allows.
+-- Assumes nothing.
 use mathlib.Core.Path.{◌≡◌, refl, sym, ◌∙◌}
 use mathlib.Core.Bool.{Bool, true, false}
 use mathlib.Core.List.{List}

@@ -1,4 +1,5 @@
 -- `replay::main` is safe and ends: the measure is the number of turns that are left.
+-- Assumes nothing.
 use mathlib.Core.Path.{◌≡◌}
 use lib.ListN.{length}
 use borrow.Author.Rules.{rules}

@@ -1,4 +1,5 @@
 -- `verdict_run::show_fronts` meets its contract.
+-- Assumes nothing.
 use mathlib.Core.Path.{sym}
 use native.Mathlib.Omega.{arith}
 use lib.Seq.{length-take-le}

@@ -1,4 +1,5 @@
 -- The reader's loop: what holds before each record, a law for each way out of a turn, and the reader's answer for each case.
+-- Assumes nothing.
 use Prim.Native.Nat.{ℕ, ◌*◌, ◌≤◌, ◌<◌}
 use mathlib.Core.Path.{◌≡◌, refl, sym, ap, ◌∙◌, subst}
 use mathlib.Core.Bool.{true, false}

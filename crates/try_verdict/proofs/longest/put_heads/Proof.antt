@@ -1,4 +1,5 @@
 -- `verdict_run::longest::put_heads` meets its contract.
+-- Assumes nothing.
 use Prim.Native.Nat.{◌-◌, ◌≤◌}
 use mathlib.Core.Path.{◌≡◌}
 use lib.ListN.{length}

@@ -1,4 +1,5 @@
 -- `verdict_run::print::stray_job` meets its contract.
+-- Assumes nothing.
 use Prim.Native.Nat.{◌-◌, ◌≤◌}
 use borrow.Author.Rules.{rules}
 use Rattle.try_verdict.proofs.print.stray_job.Statement.{statement}

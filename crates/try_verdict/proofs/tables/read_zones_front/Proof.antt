@@ -1,4 +1,5 @@
 -- `verdict_run::tables::read_zones_front` meets its contract.
+-- Assumes nothing.
 use mathlib.Core.Path.{sym}
 use native.Mathlib.Omega.{arith}
 use lib.Seq.{length-take-le}

@@ -1,0 +1,14 @@
+-- `show_front` meets its contract.
+use borrow.Author.Rules.{rules}
+use native.Mathlib.Omega.{arith}
+use Prim.Native.Nat.{◌-◌}
+use lib.ListN.{length}
+use Rattle.try_console.proofs.show_front.Goals as goal
+
+-- src/main.rt:11:5
+pub loop-k-init : goal.loop-k-init
+loop-k-init c = tt
+
+-- src/main.rt:11:5
+pub loop-k-preserved : goal.loop-k-preserved
+loop-k-preserved c = tt

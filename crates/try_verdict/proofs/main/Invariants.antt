@@ -1,0 +1,13 @@
+-- What the loops of `main` keep, and how they end.
+use Prim.Native.Nat.{◌≤◌, ◌-◌}
+use mathlib.Core.Path.{◌≡◌}
+use lib.ListN.{length}
+use borrow.Author.Rules.{rules}
+use Rattle.try_verdict.proofs.main.Given as goal
+
+-- Assumes nothing.
+abbrev pub invariant-loop-k : goal.invariant-loop-k
+invariant-loop-k l = (l.k ≤ 1000) × (length l.first ≡ 65536) × (length l.second ≡ 65536)
+
+abbrev pub decreases-loop-k : goal.decreases-loop-k
+decreases-loop-k l = 1000 - l.k

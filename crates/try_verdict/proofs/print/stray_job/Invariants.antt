@@ -1,0 +1,11 @@
+-- What the loops of `stray_job` keep, and how they end.
+use Prim.Native.Nat.{◌-◌, ◌≤◌}
+use borrow.Author.Rules.{rules}
+use Rattle.try_verdict.proofs.print.stray_job.Given as goal
+
+-- Assumes nothing.
+abbrev pub invariant-loop-k : goal.invariant-loop-k
+invariant-loop-k l = l.k ≤ 6
+
+abbrev pub decreases-loop-k : goal.decreases-loop-k
+decreases-loop-k l = 6 - l.k

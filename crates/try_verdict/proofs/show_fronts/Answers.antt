@@ -1,0 +1,13 @@
+-- `verdict_run::show_fronts` meets its contract.
+use mathlib.Core.Path.{sym}
+use native.Mathlib.Omega.{arith}
+use lib.Seq.{length-take-le}
+use borrow.Author.Rules.{rules}
+use Rattle.try_verdict.proofs.show_fronts.Goals as goal
+
+-- Assumes nothing.
+pub slice_bounds-show-end : goal.slice_bounds-show-end
+slice_bounds-show-end c = sym (length-take-le _ _ (omega arith))
+
+pub slice_bounds-show-end-then-k-second : goal.slice_bounds-show-end-then-k-second
+slice_bounds-show-end-then-k-second c = sym (length-take-le _ _ (omega arith))

@@ -1,0 +1,9 @@
+-- How far the room is filled.
+use Rattle.std.proofs.Common.{◌≤◌, ◌-◌, length}
+use Rattle.zonecheck.proofs.fill.Given as goal
+
+abbrev pub invariant-loop-n : goal.invariant-loop-n
+invariant-loop-n l = l.n ≤ length l.room
+
+abbrev pub decreases-loop-n : goal.decreases-loop-n
+decreases-loop-n l = length l.room - l.n

@@ -1,6 +1,6 @@
 -- The place of a fault stands within the text, or at its end, and its number is none of those that no text gets: 11 and above.
 -- Assumes nothing.
-use Prim.Native.Nat.{ℕ, zero, suc, ◌+◌, ◌-◌, ◌≤◌, ◌<◌}
+use Prim.Native.Nat.{ℕ, zero, suc, ◌+◌, ◌≤◌, ◌<◌}
 use mathlib.Core.Path.{◌≡◌, refl, ap, subst, ◌∙◌}
 use mathlib.Core.List.{List, [], ◌∷◌, tail}
 use mathlib.Core.Bool.{Bool, true, false, ◌&&◌}

@@ -1,8 +1,6 @@
 -- What the loops of `main` keep, and how they end.
 use mathlib.Core.Path.{◌≡◌}
 use lib.ListN.{length}
-use borrow.Author.Rules.{rules}
-use native.Mathlib.Omega.{arith}
 use Rattle.replay.proofs.main.Given as goal
 
 -- Assumes nothing.

@@ -2,7 +2,6 @@
 use mathlib.Core.Path.{sym}
 use native.Mathlib.Omega.{arith}
 use lib.Seq.{length-take-le}
-use borrow.Author.Rules.{rules}
 use Rattle.replay.proofs.print_next.Goals as goal
 
 pub slice_bounds-print_line-end-2 : goal.slice_bounds-print_line-end-2

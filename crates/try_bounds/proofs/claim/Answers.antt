@@ -1,7 +1,6 @@
 -- `bounds_run::claim` meets its contract.
 use Prim.Native.Nat.{◌+◌, ◌*◌}
 use native.Mathlib.Omega.{arith}
-use borrow.Author.Rules.{rules}
 use Rattle.try_bounds.proofs.Arrays.{cells_set}
 use Rattle.try_bounds.proofs.claim.Goals as goal
 

@@ -1,5 +1,4 @@
 -- `bounds_run::main` meets its contract.
-use borrow.Author.Rules.{rules}
 use Rattle.try_bounds.proofs.main.Goals as goal
 
 pub show_moves-requires : goal.show_moves-requires

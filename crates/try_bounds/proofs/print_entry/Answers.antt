@@ -1,5 +1,4 @@
 -- `bounds_run::print_entry` meets its contract.
-use borrow.Author.Rules.{rules}
 use lib.IntN.{pos, ◌-ℤ◌}
 use mir.Syntax.{w32}
 use mir.Val.{SFits}

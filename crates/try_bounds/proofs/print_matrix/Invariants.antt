@@ -1,6 +1,5 @@
 -- What the loops of `print_matrix` keep, and how they end.
 use Prim.Native.Nat.{◌≤◌, ◌-◌}
-use borrow.Author.Rules.{rules}
 use Rattle.try_bounds.proofs.print_matrix.Given as goal
 
 abbrev pub invariant-loop-a : goal.invariant-loop-a

@@ -1,6 +1,4 @@
 -- `bounds_run::print_row` meets its contract.
-use Prim.Native.Nat.{◌≤◌, ◌-◌}
-use borrow.Author.Rules.{rules}
 use Rattle.bounds.proofs.Signed.{back}
 use Rattle.bounds.proofs.Store.{entry_fits}
 use Rattle.try_bounds.proofs.print_row.Goals as goal

@@ -1,5 +1,4 @@
 -- `bounds_run::print_zone` meets its contract.
-use borrow.Author.Rules.{rules}
 use native.Mathlib.Omega.{arith}
 use Rattle.try_bounds.proofs.print_zone.Goals as goal
 

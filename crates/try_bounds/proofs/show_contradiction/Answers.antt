@@ -1,5 +1,4 @@
 -- `bounds_run::show_contradiction` meets its contract.
-use borrow.Author.Rules.{rules}
 use native.Mathlib.Omega.{arith}
 use Rattle.try_bounds.proofs.Arrays.{nine, listed}
 use Rattle.try_bounds.proofs.show_contradiction.Goals as goal

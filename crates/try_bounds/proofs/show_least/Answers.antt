@@ -1,5 +1,4 @@
 -- `bounds_run::show_least` meets its contract.
-use borrow.Author.Rules.{rules}
 use native.Mathlib.Omega.{arith}
 use lib.IntN.{negsuc}
 use Rattle.bounds.proofs.Ranges.{ready_tighten}

@@ -1,5 +1,4 @@
 -- `bounds_run::ticked` meets its contract.
-use borrow.Author.Rules.{rules}
 use native.Mathlib.Omega.{arith}
 use Rattle.try_bounds.proofs.Arrays.{moves, moved, tick_moves, tick_sizes}
 use Rattle.try_bounds.proofs.ticked.Goals as goal
@@ -7,8 +6,12 @@ use Rattle.try_bounds.proofs.ticked.Goals as goal
 pub remap-requires : goal.remap-requires
 remap-requires c =
     let p = c.tick_vars-p in
-    let o = c.tick_offsets-off in record { n_bound = omega arith; entries = c.requires.entries; maps = moves c.args.m 6 6 p.result o.result c.requires (omega arith) (omega arith)
-            (tick_moves p.result o.result p.ensures o.ensures.0 o.ensures.1 c.args.m c.requires) (tick_sizes p.result o.result p.ensures o.ensures.0 o.ensures.1) }
+    let o = c.tick_offsets-off in record {
+      n_bound = omega arith;
+      entries = c.requires.entries;
+      maps = moves c.args.m 6 6 p.result o.result c.requires (omega arith) (omega arith)
+          (tick_moves p.result o.result p.ensures o.ensures.0 o.ensures.1 c.args.m c.requires) (tick_sizes p.result o.result p.ensures o.ensures.0 o.ensures.1);
+    }
 
 pub returns : goal.returns
 returns c =

@@ -1,13 +1,10 @@
 -- `bounds_run::zone` meets its contract.
 use mathlib.Core.Path.{sym, ◌∙◌}
-use Prim.Native.Nat.{◌-◌, ◌≤◌}
 use native.Mathlib.Omega.{arith}
-use borrow.Author.Rules.{rules}
 use Rattle.bounds.proofs.Signed.{back}
 use Rattle.bounds.proofs.Store.{true_false}
 use Rattle.bounds.proofs.Ranges.{ready_top}
 use Rattle.bounds.specs.Matrix.{ent, Size}
-use Rattle.try_bounds.specs.Lists.{Made}
 use Rattle.try_bounds.proofs.Arrays.{limit_fits, made_more}
 use Rattle.try_bounds.proofs.zone.Goals as goal
 
@@ -18,7 +15,7 @@ loop-t-init c =
 pub tighten-r-requires : goal.tighten-r-requires
 tighten-r-requires c =
     let size : Size (ent c.args.limits c.loop-t.t) 640002 =
-        (c.requires.size c.loop-t.t (omega arith)) in
+    (c.requires.size c.loop-t.t (omega arith)) in
     let l = c.loop-t in
     let z = size in
     rw (back _ (limit_fits z)) (record { n_bound = (c.requires.few, c.requires.row l.t (omega arith), c.requires.column l.t (omega arith)); entries = (l.invariant.1.ready.entries, l.invariant.1.ready.closed); size = omega arith })
@@ -32,7 +29,7 @@ loop-t-smaller c = omega arith
 pub loop-t-preserved : goal.loop-t-preserved
 loop-t-preserved c =
     let size : Size (ent c.args.limits c.loop-t.t) 640002 =
-        (c.requires.size c.loop-t.t (omega arith)) in
+    (c.requires.size c.loop-t.t (omega arith)) in
     let l = c.loop-t in
     let z = size in
     let w = rw (back _ (limit_fits z)) at c.tighten-r.ensures in

@@ -1,14 +1,6 @@
 -- What the loops of `zone` keep, and how they end.
-use mathlib.Core.Path.{sym, ◌∙◌}
 use Prim.Native.Nat.{◌-◌, ◌≤◌}
-use native.Mathlib.Omega.{arith}
-use borrow.Author.Rules.{rules}
-use Rattle.bounds.proofs.Signed.{back}
-use Rattle.bounds.proofs.Store.{true_false}
-use Rattle.bounds.proofs.Ranges.{ready_top}
-use Rattle.bounds.specs.Matrix.{ent, Size}
 use Rattle.try_bounds.specs.Lists.{Made}
-use Rattle.try_bounds.proofs.Arrays.{limit_fits, made_more}
 use Rattle.try_bounds.proofs.zone.Given as goal
 
 abbrev pub invariant-loop-t : goal.invariant-loop-t

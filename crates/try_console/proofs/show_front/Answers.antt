@@ -1,8 +1,4 @@
 -- `show_front` meets its contract.
-use borrow.Author.Rules.{rules}
-use native.Mathlib.Omega.{arith}
-use Prim.Native.Nat.{◌-◌}
-use lib.ListN.{length}
 use Rattle.try_console.proofs.show_front.Goals as goal
 
 -- src/main.rt:11:5

@@ -1,6 +1,4 @@
 -- What the loops of `show_front` keep, and how they end.
-use borrow.Author.Rules.{rules}
-use native.Mathlib.Omega.{arith}
 use Prim.Native.Nat.{◌-◌}
 use lib.ListN.{length}
 use Rattle.try_console.proofs.show_front.Given as goal

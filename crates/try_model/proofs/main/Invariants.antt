@@ -2,8 +2,6 @@
 use Prim.Native.Nat.{◌≤◌, ◌-◌}
 use mathlib.Core.Path.{◌≡◌}
 use lib.ListN.{length}
-use borrow.Author.Rules.{rules}
-use native.Mathlib.Omega.{arith}
 use Rattle.try_model.proofs.main.Given as goal
 
 abbrev pub invariant-loop-k : goal.invariant-loop-k

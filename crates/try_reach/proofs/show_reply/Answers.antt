@@ -2,7 +2,6 @@
 use mathlib.Core.Path.{sym}
 use native.Mathlib.Omega.{arith}
 use lib.Seq.{length-take-le}
-use borrow.Author.Rules.{rules}
 use Rattle.try_reach.proofs.show_reply.Goals as goal
 
 pub slice_bounds-step-end : goal.slice_bounds-step-end

@@ -1,5 +1,4 @@
 -- `write_field` meets its contract.
-use borrow.Author.Rules.{rules}
 use native.Mathlib.Omega.{arith}
 use mathlib.Core.Path.{◌∙◌}
 use mathlib.Core.List.{append-nil}

@@ -1,5 +1,4 @@
 -- `write_three` meets its contract.
-use borrow.Author.Rules.{rules}
 use native.Mathlib.Omega.{arith}
 use mathlib.Core.List.{[], ◌∷◌}
 use Rattle.console.proofs.LineLaws.{field_end, put_fields}

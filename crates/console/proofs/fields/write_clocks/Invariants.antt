@@ -1,13 +1,9 @@
 -- What the loops of `write_clocks` keep, and how they end.
-use borrow.Author.Rules.{rules}
-use native.Mathlib.Omega.{arith}
 use Prim.Native.Nat.{◌-◌, ◌≤◌}
-use mathlib.Core.Path.{◌≡◌, refl, ◌∙◌}
+use mathlib.Core.Path.{◌≡◌}
 use lib.ListN.{length, take}
 use Rattle.lines.specs.Put.{Put}
-use Rattle.lines.proofs.Laws.Putting.{put_nothing}
 use Rattle.console.specs.Line.{spaced}
-use Rattle.console.proofs.LineLaws.{clock_room, put_clock, put_clocks}
 use Rattle.console.proofs.fields.write_clocks.Given as goal
 
 abbrev pub invariant-loop-k : goal.invariant-loop-k

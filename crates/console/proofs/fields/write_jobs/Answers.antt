@@ -1,12 +1,9 @@
 -- `write_jobs` meets its contract.
 use borrow.Author.Rules.{rules}
 use native.Mathlib.Omega.{arith}
-use Prim.Native.Nat.{◌-◌, ◌≤◌}
 use mathlib.Core.Path.{◌≡◌, refl, ◌∙◌}
-use lib.ListN.{length, take}
-use Rattle.lines.specs.Put.{Put}
+use lib.ListN.{length}
 use Rattle.lines.proofs.Laws.Putting.{put_nothing}
-use Rattle.console.specs.Line.{spaced, job_numbers}
 use Rattle.console.proofs.LineLaws.{job_room, put_job, put_jobs}
 use Rattle.console.proofs.fields.write_jobs.Goals as goal
 

@@ -1,13 +1,9 @@
 -- What the loops of `write_jobs` keep, and how they end.
-use borrow.Author.Rules.{rules}
-use native.Mathlib.Omega.{arith}
 use Prim.Native.Nat.{◌-◌, ◌≤◌}
-use mathlib.Core.Path.{◌≡◌, refl, ◌∙◌}
+use mathlib.Core.Path.{◌≡◌}
 use lib.ListN.{length, take}
 use Rattle.lines.specs.Put.{Put}
-use Rattle.lines.proofs.Laws.Putting.{put_nothing}
 use Rattle.console.specs.Line.{spaced, job_numbers}
-use Rattle.console.proofs.LineLaws.{job_room, put_job, put_jobs}
 use Rattle.console.proofs.fields.write_jobs.Given as goal
 
 abbrev pub invariant-loop-k : goal.invariant-loop-k

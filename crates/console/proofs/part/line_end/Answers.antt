@@ -1,10 +1,5 @@
 -- `line_end` meets its contract.
-use borrow.Author.Rules.{rules}
 use native.Mathlib.Omega.{arith}
-use Prim.Native.Nat.{◌+◌, ◌-◌}
-use mathlib.Core.Path.{◌≡◌}
-use lib.ListN.{length, drop}
-use Rattle.console.specs.Part.{line_length}
 use Rattle.console.proofs.PartLaws.{feed_here, feed_later, feed_none}
 use Rattle.console.proofs.part.line_end.Goals as goal
 

@@ -1,11 +1,8 @@
 -- What the loops of `line_end` keep, and how they end.
-use borrow.Author.Rules.{rules}
-use native.Mathlib.Omega.{arith}
 use Prim.Native.Nat.{◌+◌, ◌-◌}
 use mathlib.Core.Path.{◌≡◌}
 use lib.ListN.{length, drop}
 use Rattle.console.specs.Part.{line_length}
-use Rattle.console.proofs.PartLaws.{feed_here, feed_later, feed_none}
 use Rattle.console.proofs.part.line_end.Given as goal
 
 abbrev pub invariant-loop-k : goal.invariant-loop-k

@@ -1,5 +1,4 @@
 -- `part_from` meets its contract.
-use borrow.Author.Rules.{rules}
 use native.Mathlib.Omega.{arith}
 use lib.ListN.{drop, length-drop}
 use Rattle.console.proofs.PartLaws.{line_within, shown}

@@ -1,5 +1,4 @@
 -- `proposal_part` meets its contract.
-use borrow.Author.Rules.{rules}
 use Prim.Native.Nat.{ℕ}
 use lib.ListN.{replicate, length-replicate}
 use Rattle.console.proofs.FaultLaws.{proposal_place, proposal_fault, proposal_none}

@@ -1,9 +1,7 @@
 -- `copy` meets its contract.
-use borrow.Author.Rules.{rules}
 use native.Mathlib.Omega.{arith}
-use Prim.Native.Nat.{◌-◌, ◌≤◌}
-use mathlib.Core.Path.{◌≡◌, refl, ap, ◌∙◌}
-use lib.ListN.{length, length-set, take}
+use mathlib.Core.Path.{refl, ap, ◌∙◌}
+use lib.ListN.{length-set}
 use lib.Seq.{sets, take_all}
 use Rattle.console.proofs.LineLaws.{copy_more}
 use Rattle.console.proofs.printed.copy.Goals as goal

@@ -1,11 +1,8 @@
 -- What the loops of `copy` keep, and how they end.
-use borrow.Author.Rules.{rules}
-use native.Mathlib.Omega.{arith}
 use Prim.Native.Nat.{◌-◌, ◌≤◌}
-use mathlib.Core.Path.{◌≡◌, refl, ap, ◌∙◌}
-use lib.ListN.{length, length-set, take}
-use lib.Seq.{sets, take_all}
-use Rattle.console.proofs.LineLaws.{copy_more}
+use mathlib.Core.Path.{◌≡◌}
+use lib.ListN.{length, take}
+use lib.Seq.{sets}
 use Rattle.console.proofs.printed.copy.Given as goal
 
 abbrev pub invariant-loop-k : goal.invariant-loop-k

@@ -1,7 +1,5 @@
 -- `is_refused` meets its contract.
-use mathlib.Core.Path.{◌≡◌, refl, sym, ap}
-use mathlib.Core.Bool.{Bool, not, ◌||◌}
-use lib.Dec.{eqb}
+use mathlib.Core.Path.{refl}
 use borrow.Author.Tests.{eq-eqb, ne_eqb}
 use Rattle.console.proofs.room.is_refused.Goals as goal
 

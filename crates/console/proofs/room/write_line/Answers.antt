@@ -1,5 +1,4 @@
 -- `write_line` meets its contract.
-use borrow.Author.Rules.{rules}
 use native.Mathlib.Omega.{arith}
 use mathlib.Core.Path.{sym, ◌∙◌}
 use Rattle.console.proofs.LineLaws.{line_refused, line_ok, line_failed, short_refused, short_ok}

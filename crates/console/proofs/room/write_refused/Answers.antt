@@ -1,5 +1,4 @@
 -- `write_refused` meets its contract.
-use borrow.Author.Rules.{rules}
 use native.Mathlib.Omega.{arith}
 use mathlib.Core.List.{[], ◌∷◌}
 use Rattle.lines.proofs.Laws.Putting.{put_then}

@@ -1,5 +1,4 @@
 -- `write_state` meets its contract.
-use borrow.Author.Rules.{rules}
 use native.Mathlib.Omega.{arith}
 use mathlib.Core.List.{[], ◌∷◌, ◌++◌}
 use lib.ListN.{take}

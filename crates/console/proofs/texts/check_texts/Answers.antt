@@ -1,5 +1,4 @@
 -- `check_texts` meets its contract.
-use borrow.Author.Rules.{rules}
 use Prim.Native.Nat.{ℕ}
 use lib.ListN.{replicate, length-replicate}
 use Rattle.console.proofs.ReadLaws.{model_given}

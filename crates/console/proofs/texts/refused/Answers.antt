@@ -1,5 +1,4 @@
 -- `refused` meets its contract.
-use borrow.Author.Rules.{rules}
 use mathlib.Core.Path.{ap}
 use Rattle.machine.specs.declared.State.{State}
 use Rattle.verdict.specs.declared.answer.Fault.TheVariants.{Nothing}

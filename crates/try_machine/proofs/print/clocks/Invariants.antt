@@ -1,6 +1,5 @@
 -- What the loops of `clocks` keep, and how they end.
 use Prim.Native.Nat.{◌-◌, ◌≤◌}
-use borrow.Author.Rules.{rules}
 use Rattle.try_machine.proofs.print.clocks.Given as goal
 
 abbrev pub invariant-loop-k : goal.invariant-loop-k

@@ -1,6 +1,5 @@
 -- What the loops of `sums` keep, and how they end.
 use Prim.Native.Nat.{◌*◌, ◌-◌, ◌≤◌}
-use borrow.Author.Rules.{rules}
 use Rattle.try_machine.proofs.print.sums.Given as goal
 
 abbrev pub invariant-loop-k : goal.invariant-loop-k

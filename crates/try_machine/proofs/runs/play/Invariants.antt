@@ -1,7 +1,6 @@
 -- What the loops of `play` keep, and how they end.
 use Prim.Native.Nat.{◌-◌, ◌≤◌}
 use lib.ListN.{length}
-use borrow.Author.Rules.{rules}
 use Rattle.try_machine.proofs.runs.play.Given as goal
 
 abbrev pub invariant-loop-k : goal.invariant-loop-k

@@ -2,7 +2,6 @@
 use Prim.Native.Nat.{◌-◌, ◌≤◌}
 use mathlib.Core.Path.{◌≡◌}
 use lib.ListN.{length}
-use borrow.Author.Rules.{rules}
 use Rattle.try_reach.proofs.cases.next_tasks.Given as goal
 
 abbrev pub invariant-loop-k : goal.invariant-loop-k

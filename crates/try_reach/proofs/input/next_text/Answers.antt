@@ -2,7 +2,6 @@
 use mathlib.Core.Path.{sym}
 use native.Mathlib.Omega.{arith}
 use lib.Seq.{length-take-le}
-use borrow.Author.Rules.{rules}
 use Rattle.try_reach.proofs.input.next_text.Goals as goal
 
 pub slice_bounds-read_full-end-2 : goal.slice_bounds-read_full-end-2

@@ -3,7 +3,6 @@ use lib.IntN.{pos, ◌-ℤ◌}
 use mir.Syntax.{w32}
 use mir.Val.{SFits}
 use mir.Facts.{sfits_lit}
-use borrow.Author.Rules.{rules}
 use Rattle.bounds.proofs.Signed.{signed, rd, at, diff_at, diff_fits, nonneg_make, abs_law, fits_over, fits_under}
 use Rattle.try_reach.proofs.print.bound.Goals as goal
 

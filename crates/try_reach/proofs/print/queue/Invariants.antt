@@ -1,6 +1,5 @@
 -- What the loops of `queue` keep, and how they end.
 use Prim.Native.Nat.{◌-◌, ◌≤◌}
-use borrow.Author.Rules.{rules}
 use Rattle.try_reach.proofs.print.queue.Given as goal
 
 abbrev pub invariant-loop-k : goal.invariant-loop-k

@@ -1,6 +1,5 @@
 -- What the loops of `row` keep, and how they end.
 use Prim.Native.Nat.{◌-◌, ◌≤◌}
-use borrow.Author.Rules.{rules}
 use Rattle.try_reach.proofs.print.row.Given as goal
 
 abbrev pub invariant-loop-j : goal.invariant-loop-j

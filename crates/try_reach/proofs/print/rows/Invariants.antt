@@ -1,6 +1,5 @@
 -- What the loops of `rows` keep, and how they end.
 use Prim.Native.Nat.{◌-◌, ◌≤◌}
-use borrow.Author.Rules.{rules}
 use Rattle.try_reach.proofs.print.rows.Given as goal
 
 abbrev pub invariant-loop-i : goal.invariant-loop-i

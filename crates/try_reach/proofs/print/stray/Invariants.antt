@@ -1,6 +1,5 @@
 -- What the loops of `stray` keep, and how they end.
 use Prim.Native.Nat.{◌-◌, ◌≤◌}
-use borrow.Author.Rules.{rules}
 use Rattle.try_reach.proofs.print.stray.Given as goal
 
 abbrev pub invariant-loop-k : goal.invariant-loop-k

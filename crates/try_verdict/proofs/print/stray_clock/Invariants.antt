@@ -1,6 +1,5 @@
 -- What the loops of `stray_clock` keep, and how they end.
 use Prim.Native.Nat.{◌-◌, ◌≤◌}
-use borrow.Author.Rules.{rules}
 use Rattle.try_verdict.proofs.print.stray_clock.Given as goal
 
 -- Assumes nothing.

@@ -2,7 +2,6 @@
 use mathlib.Core.Path.{sym}
 use native.Mathlib.Omega.{arith}
 use lib.Seq.{length-take-le}
-use borrow.Author.Rules.{rules}
 use Rattle.try_verdict.proofs.tables.read_model_front.Goals as goal
 
 pub slice_bounds-read_model_a-end-then-n-model : goal.slice_bounds-read_model_a-end-then-n-model

@@ -2,7 +2,6 @@
 use mathlib.Core.Path.{sym}
 use native.Mathlib.Omega.{arith}
 use lib.Seq.{length-take-le}
-use borrow.Author.Rules.{rules}
 use Rattle.try_verdict.proofs.tables.read_zones_front.Goals as goal
 
 pub slice_bounds-read_zones_a-end-then-n-zones : goal.slice_bounds-read_zones_a-end-then-n-zones

@@ -1,14 +1,8 @@
 -- What the loops of `check_given` keep, and how they end.
-use mathlib.Core.Path.{sym, subst}
 use Prim.Native.Nat.{◌+◌, ◌-◌, ◌*◌, ◌≤◌}
-use native.Mathlib.Omega.{arith}
-use borrow.Author.Rules.{rules}
-use borrow.Author.Tests.{not-true, not-false}
 use Rattle.meaning.specs.Text.ModelTable.{decode}
 use Rattle.meaning.specs.Text.ProposalTable as table
-use Rattle.meaning.proofs.Tests.{never}
-use Rattle.verdict.specs.AnsweredBy.{AnsweredBy}
-use Rattle.verdict.proofs.TriedLaws.{TriedTo, tried_first, answered_start, answered_zone, zone_tried, answered_all}
+use Rattle.verdict.proofs.TriedLaws.{TriedTo}
 use Rattle.verdict.proofs.answering.check_given.Given as goal
 
 abbrev pub invariant-loop-n : goal.invariant-loop-n

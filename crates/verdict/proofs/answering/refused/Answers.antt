@@ -1,6 +1,5 @@
 -- `verdict::answering::refused` meets its contract.
 use mathlib.Core.Path.{ap}
-use borrow.Author.Rules.{rules}
 use Rattle.machine.specs.declared.State.{State}
 use Rattle.meaning.specs.Text.Refusals.{not_proper}
 use Rattle.verdict.specs.declared.answer.Answer.{Answer}

@@ -1,6 +1,5 @@
 -- `verdict::found::holds` meets its contract.
 use mathlib.Core.Path.{ap}
-use borrow.Author.Rules.{rules}
 use Rattle.verdict.specs.declared.answer.Fault.TheVariants.{Nothing}
 use Rattle.verdict.proofs.FoundLaws.{found}
 use Rattle.verdict.proofs.found.holds.Goals as goal

@@ -1,6 +1,5 @@
 -- `verdict::found::is_clear` meets its contract.
 use mathlib.Core.Path.{sym, ◌∙◌, ap}
-use borrow.Author.Rules.{rules}
 use Rattle.home.proofs.Walks.{is_so, is_not}
 use Rattle.verdict.specs.Answers.{fault_of}
 use Rattle.verdict.proofs.FoundLaws.{none_some}

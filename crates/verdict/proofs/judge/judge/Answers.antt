@@ -1,6 +1,5 @@
 -- `verdict::judge::judge` meets its contract.
 use mathlib.Core.Path.{sym, subst}
-use borrow.Author.Rules.{rules}
 use Rattle.meaning.specs.Text.ModelTable.{decode}
 use Rattle.meaning.specs.Text.ProposalTable as table
 use Rattle.zone_list.specs.Steps.{step_of}

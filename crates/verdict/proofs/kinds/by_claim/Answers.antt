@@ -1,7 +1,6 @@
 -- `verdict::kinds::by_claim` meets its contract.
 use mathlib.Core.Path.{sym, subst}
 use Prim.Native.Nat.{◌≤◌}
-use borrow.Author.Rules.{rules}
 use borrow.Author.Tests.{not-true, not-false}
 use Rattle.meaning.specs.Text.ModelTable.{decode}
 use Rattle.meaning.specs.Text.ProposalTable as table

@@ -2,7 +2,6 @@
 // read counts as empty.
 #![tactic(auto)]
 
-ghost use Rattle.std.specs.Prelude.{IfOk};
 ghost use Rattle.io.specs.Counts.{IsPrefixLen};
 
 use console::Written;
@@ -10,19 +9,34 @@ use std::io::Read;
 use std::rt::Files;
 use std::{fs, io};
 
-// The file's bytes into the room until it ends or the room is full, and how many.
-fn fill<R: Read>(file: &mut R, room: &mut [u8]) -> io::Result<usize>
-    ensures { IfOk result (λ n. IsPrefixLen n room.new) }
+// The file's bytes into the room until it ends, a read fails or the room is full, and how many.
+fn read_full<R: Read>(file: &mut R, room: &mut [u8]) -> usize
+    ensures { IsPrefixLen result room.new }
 {
     let mut n = 0;
     while n < room.len() {
-        let more = file.read(&mut room[n..])?;
-        if more == 0 {
-            break;
+        match file.read(&mut room[n..]) {
+            Ok(more) => {
+                if more == 0 {
+                    return n;
+                }
+                n += more;
+            }
+            Err(_) => {
+                return n;
+            }
         }
-        n += more;
     }
-    Ok(n)
+    n
+}
+
+// Whether the file has no more bytes: a read that fails says no.
+fn ends<R: Read>(file: &mut R) -> bool {
+    let mut more = [0u8; 1];
+    match file.read(&mut more) {
+        Ok(n) => n == 0,
+        Err(_) => false,
+    }
 }
 
 // The file's bytes into the room, and how many. The room has one byte more than a text may have, so a longer file is seen as longer. A file
@@ -31,10 +45,11 @@ fn read_file<R: Files>(rt: &R, name: &str, room: &mut [u8]) -> usize
     ensures { IsPrefixLen result room.new }
 {
     match fs::open(rt, name) {
-        Ok(mut file) => match fill(&mut file, room) {
-            Ok(n) => n,
-            Err(_) => 0,
-        },
+        Ok(mut file) => {
+            let n = read_full(&mut file, room);
+            let whole = n == room.len() || ends(&mut file);
+            if whole { n } else { 0 }
+        }
         Err(_) => 0,
     }
 }

@@ -1,6 +1,6 @@
 -- How far the room is filled.
 use Rattle.std.proofs.Common.{◌≤◌, ◌-◌, length}
-use Rattle.examples.proofs.fill.Given as goal
+use Rattle.zonecheck.proofs.read_full.Given as goal
 
 abbrev pub invariant-loop-n : goal.invariant-loop-n
 invariant-loop-n g l = l.n ≤ length l.room

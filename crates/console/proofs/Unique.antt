@@ -41,7 +41,7 @@ line_once x b r₁ r₂ b₁ b₂ p q =
     (λ h. (same_written r₁ r₂ _ (p.short h).0 (q.short h).0, (p.short h).1 ∙ sym (q.short h).1))
     (λ h. (same_written r₁ r₂ _ (p.text h).0 (q.text h).0, (p.text h).1 ∙ sym (q.text h).1))
 
--- the fault's part: where it begins, and its bytes (so their number); the ghost name of a reference is no value of the program
+-- the fault's part: where it begins, and its bytes (so their number)
 pub part_once : (w : Where) (m p r₁ r₂ : Bor (List ℕ)) → ShowsIn w m p r₁ → ShowsIn w m p r₂ → (r₁.ref_ptr ≡ r₂.ref_ptr) × (r₁.now ≡ r₂.now)
 part_once (in_model x) m p r₁ r₂ a b = (a.begins ∙ sym b.begins, a.bytes ∙ sym b.bytes)
 part_once (in_proposal x) m p r₁ r₂ a b = (a.begins ∙ sym b.begins, a.bytes ∙ sym b.bytes)

@@ -1,4 +1,4 @@
--- A number that was read is at most tooLarge.
+-- A number that was read is at most too_large.
 -- Assumes nothing.
 use Prim.Native.Nat.{◌+◌, ◌≤◌, ℕ}
 use mathlib.Core.Bool.{Bool, false}

@@ -29,7 +29,7 @@ around k = record { below = k; low = 0; high = k + k }
 unfoldable pub outside : Range → ℕ → Bool
 outside e v = ltb v e.low || ltb e.high v
 
--- what is kept of a number with its sign; one below the range's low end may be kept as tooLarge, which is outside every range too
+-- what is kept of a number with its sign; one below the range's low end may be kept as too_large, which is outside every range too
 unfoldable pub kept : ℕ → Bool → ℕ → ℕ
 kept k true v = pick (ltb k v) too_large (k - v)
 kept k false v = k + v

@@ -9,7 +9,7 @@ use Rattle.meaning.specs.Text.Choice.{pick}
 abbrev pub digits_most : ℕ
 digits_most = 6
 
--- 10 to the power of digitsMost: numbers from here on are all taken for this one, which is out of every range
+-- 10 to the power of digits_most: numbers from here on are all taken for this one, which is out of every range
 abbrev pub too_large : ℕ
 too_large = 1000000
 
@@ -54,7 +54,7 @@ unfoldable pub dec_f : ℕ → ℕ → List ℕ
 dec_f zero v = []
 dec_f (suc f) v = pick (ltb v 10) ((48 + v) ∷ []) (dec_f f (v / 10) ++ (48 + v % 10) ∷ [])
 
--- the text of a number below tooLarge
+-- the text of a number below too_large
 unfoldable pub dec : ℕ → List ℕ
 dec v = dec_f digits_most v
 

@@ -1,4 +1,4 @@
--- `bounds_run::claim` meets its contract.
+-- `try_bounds::claim` meets its contract.
 use Prim.Native.Nat.{◌+◌, ◌*◌}
 use native.Mathlib.Omega.{arith}
 use Rattle.try_bounds.proofs.Arrays.{cells_set}

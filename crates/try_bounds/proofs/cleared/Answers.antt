@@ -1,4 +1,4 @@
--- `bounds_run::cleared` meets its contract.
+-- `try_bounds::cleared` meets its contract.
 use native.Mathlib.Omega.{arith}
 use Rattle.try_bounds.proofs.Arrays.{moves, moved, reset_vars, still_offsets, reset_moves, still_sizes}
 use Rattle.try_bounds.proofs.cleared.Goals as goal

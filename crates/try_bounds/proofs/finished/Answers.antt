@@ -1,4 +1,4 @@
--- `bounds_run::finished` meets its contract.
+-- `try_bounds::finished` meets its contract.
 use native.Mathlib.Omega.{arith}
 use Rattle.try_bounds.proofs.Arrays.{moves, moved, finish_vars, finish_offsets, finish_moves, finish_sizes}
 use Rattle.try_bounds.proofs.finished.Goals as goal

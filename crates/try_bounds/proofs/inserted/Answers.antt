@@ -1,4 +1,4 @@
--- `bounds_run::inserted` meets its contract.
+-- `try_bounds::inserted` meets its contract.
 use native.Mathlib.Omega.{arith}
 use Rattle.try_bounds.proofs.Arrays.{moves, moved, insert_vars, still_offsets, insert_moves, still_sizes}
 use Rattle.try_bounds.proofs.inserted.Goals as goal

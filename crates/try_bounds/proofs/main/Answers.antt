@@ -1,4 +1,4 @@
--- `bounds_run::main` meets its contract.
+-- `try_bounds::main` meets its contract.
 use Rattle.try_bounds.proofs.main.Goals as goal
 
 pub show_moves-requires : goal.show_moves-requires

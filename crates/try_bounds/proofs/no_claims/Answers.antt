@@ -1,4 +1,4 @@
--- `bounds_run::no_claims` meets its contract.
+-- `try_bounds::no_claims` meets its contract.
 use Prim.Native.Nat.{◌+◌}
 use native.Mathlib.Omega.{arith}
 use Rattle.bounds.proofs.Store.{zeros}

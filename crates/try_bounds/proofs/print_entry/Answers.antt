@@ -1,4 +1,4 @@
--- `bounds_run::print_entry` meets its contract.
+-- `try_bounds::print_entry` meets its contract.
 use lib.IntN.{pos, ◌-ℤ◌}
 use mir.Syntax.{w32}
 use mir.Val.{SFits}

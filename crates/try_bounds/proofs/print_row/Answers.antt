@@ -1,4 +1,4 @@
--- `bounds_run::print_row` meets its contract.
+-- `try_bounds::print_row` meets its contract.
 use Rattle.bounds.proofs.Signed.{back}
 use Rattle.bounds.proofs.Store.{entry_fits}
 use Rattle.try_bounds.proofs.print_row.Goals as goal

@@ -1,4 +1,4 @@
--- `bounds_run::print_zone` meets its contract.
+-- `try_bounds::print_zone` meets its contract.
 use native.Mathlib.Omega.{arith}
 use Rattle.try_bounds.proofs.print_zone.Goals as goal
 

@@ -1,4 +1,4 @@
--- `bounds_run::show_broken` meets its contract.
+-- `try_bounds::show_broken` meets its contract.
 use native.Mathlib.Omega.{arith}
 use Rattle.try_bounds.proofs.Arrays.{moves, tick_moves, tick_sizes}
 use Rattle.try_bounds.proofs.show_broken.Goals as goal

@@ -1,4 +1,4 @@
--- `bounds_run::show_contradiction` meets its contract.
+-- `try_bounds::show_contradiction` meets its contract.
 use native.Mathlib.Omega.{arith}
 use Rattle.try_bounds.proofs.Arrays.{nine, listed}
 use Rattle.try_bounds.proofs.show_contradiction.Goals as goal

@@ -1,4 +1,4 @@
--- `bounds_run::show_least` meets its contract.
+-- `try_bounds::show_least` meets its contract.
 use native.Mathlib.Omega.{arith}
 use lib.IntN.{negsuc}
 use Rattle.bounds.proofs.Ranges.{ready_tighten}

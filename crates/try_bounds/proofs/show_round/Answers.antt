@@ -1,4 +1,4 @@
--- `bounds_run::show_round` meets its contract.
+-- `try_bounds::show_round` meets its contract.
 use native.Mathlib.Omega.{arith}
 use Rattle.try_bounds.proofs.Arrays.{nine, listed}
 use Rattle.try_bounds.proofs.show_round.Goals as goal

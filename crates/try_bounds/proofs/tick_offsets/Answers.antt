@@ -1,4 +1,4 @@
--- `bounds_run::tick_offsets` meets its contract.
+-- `try_bounds::tick_offsets` meets its contract.
 use mathlib.Core.Path.{refl}
 use native.Mathlib.Omega.{arith}
 use Rattle.try_bounds.proofs.Arrays.{six}

@@ -1,4 +1,4 @@
--- `bounds_run::tick_vars` meets its contract.
+-- `try_bounds::tick_vars` meets its contract.
 use mathlib.Core.Path.{refl}
 use Rattle.try_bounds.proofs.Arrays.{six}
 use Rattle.try_bounds.proofs.tick_vars.Goals as goal

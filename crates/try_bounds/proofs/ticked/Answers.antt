@@ -1,4 +1,4 @@
--- `bounds_run::ticked` meets its contract.
+-- `try_bounds::ticked` meets its contract.
 use native.Mathlib.Omega.{arith}
 use Rattle.try_bounds.proofs.Arrays.{moves, moved, tick_moves, tick_sizes}
 use Rattle.try_bounds.proofs.ticked.Goals as goal

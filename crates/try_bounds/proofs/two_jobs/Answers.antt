@@ -1,4 +1,4 @@
--- `bounds_run::two_jobs` meets its contract.
+-- `try_bounds::two_jobs` meets its contract.
 use Prim.Native.Nat.{◌+◌, ◌≤◌}
 use native.Mathlib.Omega.{arith}
 use Rattle.try_bounds.proofs.Arrays.{nine, listed}

@@ -1,4 +1,4 @@
--- `bounds_run::zone` meets its contract.
+-- `try_bounds::zone` meets its contract.
 use mathlib.Core.Path.{sym, ◌∙◌}
 use native.Mathlib.Omega.{arith}
 use Rattle.bounds.proofs.Signed.{back}

@@ -1,4 +1,4 @@
--- `model_run::print_same` meets its contract.
+-- `try_model::print_same` meets its contract.
 use mathlib.Core.Path.{sym}
 use native.Mathlib.Omega.{arith}
 use lib.Seq.{length-take-le}

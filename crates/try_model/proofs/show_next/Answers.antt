@@ -1,4 +1,4 @@
--- `model_run::show_next` meets its contract.
+-- `try_model::show_next` meets its contract.
 use mathlib.Core.Path.{sym}
 use native.Mathlib.Omega.{arith}
 use lib.Seq.{length-take-le}

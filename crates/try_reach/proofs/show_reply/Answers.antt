@@ -1,4 +1,4 @@
--- `zones_run::show_reply` meets its contract.
+-- `try_reach::show_reply` meets its contract.
 use mathlib.Core.Path.{sym}
 use native.Mathlib.Omega.{arith}
 use lib.Seq.{length-take-le}

@@ -1,4 +1,4 @@
--- `proposal_run::next_text` meets its contract.
+-- `try_zones::next_text` meets its contract.
 use mathlib.Core.Path.{sym}
 use native.Mathlib.Omega.{arith}
 use lib.Seq.{length-take-le}

@@ -1,4 +1,4 @@
--- `proposal_run::show_fronts` meets its contract.
+-- `try_zones::show_fronts` meets its contract.
 use mathlib.Core.Path.{sym}
 use native.Mathlib.Omega.{arith}
 use lib.Seq.{length-take-le}

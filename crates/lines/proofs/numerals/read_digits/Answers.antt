@@ -1,6 +1,5 @@
 -- `read_digits` meets its contract.
 use native.Mathlib.Omega.{arith}
-use borrow.Author.Tests.{not-true, not-false}
 use mathlib.Core.Bool.{true, false}
 use mathlib.Core.Path.{◌≡◌, sym, ◌∙◌}
 use lib.ListN.{get_or}
@@ -12,21 +11,21 @@ pub returns-then-not-is_digit : goal.returns-then-not-is_digit
 returns-then-not-is_digit c =
     let a = c.args in
     let l = c.loop-i in
-    let e : is_digit (get_or a.s.now l.i 0) ≡ false = sym c.is_digit.ensures ∙ not-true _ c.if-not-is_digit.true-raw in
+    let e : is_digit (get_or a.s.now l.i 0) ≡ false = sym c.is_digit.ensures ∙ c.if-not-is_digit.true in
     sym (digits_stop a.s.now l.i l.v (omega arith) e) ∙ l.invariant.1
 
 pub push_digit-v-requires : goal.push_digit-v-requires
 push_digit-v-requires c =
     let a = c.args in
     let l = c.loop-i in
-    let e : is_digit (get_or a.s.now l.i 0) ≡ true = sym c.is_digit.ensures ∙ not-false _ c.if-not-is_digit.false-raw in
+    let e : is_digit (get_or a.s.now l.i 0) ≡ true = sym c.is_digit.ensures ∙ c.if-not-is_digit.false in
     (l.invariant.0, (digit_low _ e).0)
 
 pub loop-i-preserved : goal.loop-i-preserved
 loop-i-preserved c =
     let a = c.args in
     let l = c.loop-i in
-    let e : is_digit (get_or a.s.now l.i 0) ≡ true = sym c.is_digit.ensures ∙ not-false _ c.if-not-is_digit.false-raw in (
+    let e : is_digit (get_or a.s.now l.i 0) ≡ true = sym c.is_digit.ensures ∙ c.if-not-is_digit.false in (
       rw c.push_digit-v.ensures (push_le _ _),
       rw c.push_digit-v.ensures (sym (digits_more a.s.now l.i l.v (omega arith) e) ∙ l.invariant.1),
     )

@@ -1,5 +1,4 @@
 -- `read_number` meets its contract.
-use borrow.Author.Tests.{not-true, not-false}
 use Rattle.meaning.specs.Text.Numerals.{negated}
 use Rattle.lines.specs.Meant.{meant}
 use native.Mathlib.Omega.{arith}
@@ -20,7 +19,7 @@ returns-then-b-eq48 c =
 pub returns-then-not-minus : goal.returns-then-not-minus
 returns-then-not-minus c =
     let a = c.args in
-    c.read_positive.ensures ∙ sym (number_plain a.s.now a.at a.minus (omega arith) c.if-b-eq48.false (not-true _ c.if-not-minus.true-raw))
+    c.read_positive.ensures ∙ sym (number_plain a.s.now a.at a.minus (omega arith) c.if-b-eq48.false c.if-not-minus.true)
 
 pub returns-then-b-ne45 : goal.returns-then-b-ne45
 returns-then-b-ne45 c =
@@ -32,11 +31,11 @@ unfolding negated
 returns-in-Num c =
     let a = c.args in
     ap negated (sym (ap meant c.in-Num.is) ∙ c.read_positive-n.ensures)
-    ∙ sym (number_minus a.s.now a.at a.minus (omega arith) (not-false _ c.if-not-minus.false-raw) c.if-b-ne45.false)
+    ∙ sym (number_minus a.s.now a.at a.minus (omega arith) c.if-not-minus.false c.if-b-ne45.false)
 
 pub returns-in-Stuck : goal.returns-in-Stuck
 unfolding negated
 returns-in-Stuck c =
     let a = c.args in
     ap negated (sym (ap meant c.in-Stuck.is) ∙ c.read_positive-n.ensures)
-    ∙ sym (number_minus a.s.now a.at a.minus (omega arith) (not-false _ c.if-not-minus.false-raw) c.if-b-ne45.false)
+    ∙ sym (number_minus a.s.now a.at a.minus (omega arith) c.if-not-minus.false c.if-b-ne45.false)

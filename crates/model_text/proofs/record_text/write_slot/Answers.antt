@@ -7,7 +7,6 @@ use mathlib.Core.List.{List, ◌∷◌}
 use lib.ListN.{length, length-set}
 use lib.Seq.{sets}
 use Rattle.lines.specs.Meant.{no_numbers}
-use borrow.Author.Tests.{not-true, not-false}
 use Rattle.meaning.specs.Text.Lines.{fields_text}
 use Rattle.meaning.specs.Text.ModelText.{form}
 use Rattle.meaning.specs.Text.ModelTable.{there}
@@ -36,24 +35,24 @@ returns-then-q-eq0 c =
 pub returns-then-not-is_there : goal.returns-then-not-is_there
 returns-then-not-is_there c =
     let a = c.args in
-    rw (line_none a.t.now a.j (sym c.is_there.ensures ∙ not-true _ c.if-not-is_there.true-raw)) (put_nothing _ _)
+    rw (line_none a.t.now a.j (sym c.is_there.ensures ∙ c.if-not-is_there.true)) (put_nothing _ _)
 
 pub bounds-buf-at : goal.bounds-buf-at
 bounds-buf-at c =
     let h = c.requires.2 in
-    omega (arith, ap length (whole _ _ _ _ _ c.mark_at-q.ensures c.if-q-eq0.false (sym c.is_there.ensures ∙ not-false _ c.if-not-is_there.false-raw) c.ranges_of-g.ensures c.numbers_of-v.ensures))
+    omega (arith, ap length (whole _ _ _ _ _ c.mark_at-q.ensures c.if-q-eq0.false (sym c.is_there.ensures ∙ c.if-not-is_there.false) c.ranges_of-g.ensures c.numbers_of-v.ensures))
 
 pub bounds-buf-at-2 : goal.bounds-buf-at-2
 bounds-buf-at-2 c =
     let h = c.requires.2 in
-    simp length-set (omega (arith, ap length (whole _ _ _ _ _ c.mark_at-q.ensures c.if-q-eq0.false (sym c.is_there.ensures ∙ not-false _ c.if-not-is_there.false-raw) c.ranges_of-g.ensures c.numbers_of-v.ensures)))
+    simp length-set (omega (arith, ap length (whole _ _ _ _ _ c.mark_at-q.ensures c.if-q-eq0.false (sym c.is_there.ensures ∙ c.if-not-is_there.false) c.ranges_of-g.ensures c.numbers_of-v.ensures)))
 
 pub write_fields-requires : goal.write_fields-requires
 write_fields-requires c =
     let h = c.requires.2 in
     let r = c.ranges_of-g.ensures in
     let n = ends_few (mark_no c.mark_at-q.result) c.args.t.now in
-    (omega (arith, r.many), simp length-set (omega (arith, ap length (whole _ _ _ _ _ c.mark_at-q.ensures c.if-q-eq0.false (sym c.is_there.ensures ∙ not-false _ c.if-not-is_there.false-raw) c.ranges_of-g.ensures c.numbers_of-v.ensures))))
+    (omega (arith, r.many), simp length-set (omega (arith, ap length (whole _ _ _ _ _ c.mark_at-q.ensures c.if-q-eq0.false (sym c.is_there.ensures ∙ c.if-not-is_there.false) c.ranges_of-g.ensures c.numbers_of-v.ensures))))
 
 pub shape_of-buf : goal.shape_of-buf
 shape_of-buf c = c.write_fields.auto.buf ∙ simp length-set
@@ -61,4 +60,4 @@ shape_of-buf c = c.write_fields.auto.buf ∙ simp length-set
 pub returns : goal.returns
 returns c =
     let a = c.args in
-    rw (whole _ _ _ _ _ c.mark_at-q.ensures c.if-q-eq0.false (sym c.is_there.ensures ∙ not-false _ c.if-not-is_there.false-raw) c.ranges_of-g.ensures c.numbers_of-v.ensures, sym c.first_byte.ensures, sym c.second_byte.ensures) (put_two a.buf.now a.at _ _ _ _ _ c.write_fields.ensures)
+    rw (whole _ _ _ _ _ c.mark_at-q.ensures c.if-q-eq0.false (sym c.is_there.ensures ∙ c.if-not-is_there.false) c.ranges_of-g.ensures c.numbers_of-v.ensures, sym c.first_byte.ensures, sym c.second_byte.ensures) (put_two a.buf.now a.at _ _ _ _ _ c.write_fields.ensures)

@@ -4,7 +4,6 @@ use mathlib.Core.Path.{◌≡◌, refl, sym, ap, ◌∙◌, subst}
 use mathlib.Core.List.{List}
 use mathlib.Core.Bool.{true}
 use native.Mathlib.Omega.{arith}
-use borrow.Author.Tests.{not-true, not-false}
 use lib.ListN.{get_or}
 use Rattle.meaning.specs.Text.Lines.{Range, fields}
 use Rattle.meaning.specs.Text.ModelText.{Mark}
@@ -24,7 +23,7 @@ returns-then-not-due c =
     let a = c.args in
     let q = mark_no c.mark-q.result in
     let e = look_as (mark_no c.mark-q.result) a.s.now a.at a.i a.t.now c.mark-q.ensures in
-    rw (e ∙ look_not_due q a.s.now a.at a.i a.t.now (sym c.due.ensures ∙ not-true _ c.if-not-due.true-raw)) (refl, refl)
+    rw (e ∙ look_not_due q a.s.now a.at a.i a.t.now (sym c.due.ensures ∙ c.if-not-due.true)) (refl, refl)
 
 pub returns-then-latest-i : goal.returns-then-latest-i
 returns-then-latest-i c =
@@ -32,7 +31,7 @@ returns-then-latest-i c =
     let q = mark_no c.mark-q.result in
     let e = look_as (mark_no c.mark-q.result) a.s.now a.at a.i a.t.now c.mark-q.ensures in
     let l = c.latest.ensures in
-    rw (e ∙ look_late q a.s.now a.at a.i a.t.now (sym c.due.ensures ∙ not-false _ c.if-not-due.false-raw) (let k = c.if-latest-i.true in omega arith)) (refl, refl)
+    rw (e ∙ look_late q a.s.now a.at a.i a.t.now (sym c.due.ensures ∙ c.if-not-due.false) (let k = c.if-latest-i.true in omega arith)) (refl, refl)
 
 pub returns-then-not-room : goal.returns-then-not-room
 returns-then-not-room c =
@@ -40,7 +39,7 @@ returns-then-not-room c =
     let q = mark_no c.mark-q.result in
     let e = look_as (mark_no c.mark-q.result) a.s.now a.at a.i a.t.now c.mark-q.ensures in
     let l = c.latest.ensures in
-    rw (e ∙ look_full q a.s.now a.at a.i a.t.now (sym c.due.ensures ∙ not-false _ c.if-not-due.false-raw) (let k = c.if-latest-i.false in omega arith) (sym c.room.ensures ∙ not-true _ c.if-not-room.true-raw)) (refl, refl)
+    rw (e ∙ look_full q a.s.now a.at a.i a.t.now (sym c.due.ensures ∙ c.if-not-due.false) (let k = c.if-latest-i.false in omega arith) (sym c.room.ensures ∙ c.if-not-room.true)) (refl, refl)
 
 pub read_line-line-requires : goal.read_line-line-requires
 read_line-line-requires c =
@@ -63,8 +62,8 @@ pub returns-then-line-gt0 : goal.returns-then-line-gt0
 returns-then-line-gt0 c =
     let a = c.args in
     let q = mark_no c.mark-q.result in
-    let due = sym c.due.ensures ∙ not-false _ c.if-not-due.false-raw in
-    let room = sym c.room.ensures ∙ not-false _ c.if-not-room.false-raw in
+    let due = sym c.due.ensures ∙ c.if-not-due.false in
+    let room = sym c.room.ensures ∙ c.if-not-room.false in
     let e = judged q a.s.now a.at a.i a.t.now _ c.mark-q.ensures due c.latest.ensures (let k = c.if-latest-i.false in omega arith) room in
     let l = c.read_line-line.result in
     let f = told q a.t.now a.s.now (a.at + 2) c.ranges_of-g.result l c.ranges_of-g.ensures c.read_line-line.ensures in
@@ -74,8 +73,8 @@ pub returns-then-line-s : goal.returns-then-line-s
 returns-then-line-s c =
     let a = c.args in
     let q = mark_no c.mark-q.result in
-    let due = sym c.due.ensures ∙ not-false _ c.if-not-due.false-raw in
-    let room = sym c.room.ensures ∙ not-false _ c.if-not-room.false-raw in
+    let due = sym c.due.ensures ∙ c.if-not-due.false in
+    let room = sym c.room.ensures ∙ c.if-not-room.false in
     let e = judged q a.s.now a.at a.i a.t.now _ c.mark-q.ensures due c.latest.ensures (let k = c.if-latest-i.false in omega arith) room in
     let l = c.read_line-line.result in
     let f = told q a.t.now a.s.now (a.at + 2) c.ranges_of-g.result l c.ranges_of-g.ensures c.read_line-line.ensures in
@@ -86,8 +85,8 @@ pub returns-then-q-eq9 : goal.returns-then-q-eq9
 returns-then-q-eq9 c =
     let a = c.args in
     let q = mark_no c.mark-q.result in
-    let due = sym c.due.ensures ∙ not-false _ c.if-not-due.false-raw in
-    let room = sym c.room.ensures ∙ not-false _ c.if-not-room.false-raw in
+    let due = sym c.due.ensures ∙ c.if-not-due.false in
+    let room = sym c.room.ensures ∙ c.if-not-room.false in
     let e = judged q a.s.now a.at a.i a.t.now _ c.mark-q.ensures due c.latest.ensures (let k = c.if-latest-i.false in omega arith) room in
     let l = c.read_line-line.result in
     let f = told q a.t.now a.s.now (a.at + 2) c.ranges_of-g.result l c.ranges_of-g.ensures c.read_line-line.ensures in
@@ -98,8 +97,8 @@ pub enter-requires : goal.enter-requires
 enter-requires c =
     let a = c.args in
     let q = mark_no c.mark-q.result in
-    let due = sym c.due.ensures ∙ not-false _ c.if-not-due.false-raw in
-    let room = sym c.room.ensures ∙ not-false _ c.if-not-room.false-raw in
+    let due = sym c.due.ensures ∙ c.if-not-due.false in
+    let room = sym c.room.ensures ∙ c.if-not-room.false in
     let l = c.read_line-line.result in
     let f = told q a.t.now a.s.now (a.at + 2) c.ranges_of-g.result l c.ranges_of-g.ensures c.read_line-line.ensures in
     let o = told_ok _ l f (let k = c.if-line-gt0.false in omega arith) in
@@ -119,8 +118,8 @@ pub returns : goal.returns
 returns c =
     let a = c.args in
     let q = mark_no c.mark-q.result in
-    let due = sym c.due.ensures ∙ not-false _ c.if-not-due.false-raw in
-    let room = sym c.room.ensures ∙ not-false _ c.if-not-room.false-raw in
+    let due = sym c.due.ensures ∙ c.if-not-due.false in
+    let room = sym c.room.ensures ∙ c.if-not-room.false in
     let e = judged q a.s.now a.at a.i a.t.now _ c.mark-q.ensures due c.latest.ensures (let k = c.if-latest-i.false in omega arith) room in
     let l = c.read_line-line.result in
     let f = told q a.t.now a.s.now (a.at + 2) c.ranges_of-g.result l c.ranges_of-g.ensures c.read_line-line.ensures in

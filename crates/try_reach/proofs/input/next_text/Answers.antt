@@ -1,4 +1,4 @@
--- `zones_run::input::next_text` meets its contract.
+-- `try_reach::input::next_text` meets its contract.
 use mathlib.Core.Path.{sym}
 use native.Mathlib.Omega.{arith}
 use lib.Seq.{length-take-le}

@@ -1,4 +1,4 @@
--- `zones_run::print::bound` meets its contract.
+-- `try_reach::print::bound` meets its contract.
 use lib.IntN.{pos, ◌-ℤ◌}
 use mir.Syntax.{w32}
 use mir.Val.{SFits}

@@ -1,4 +1,4 @@
--- `verdict_run::tables::read_zones_front` meets its contract.
+-- `try_verdict::tables::read_zones_front` meets its contract.
 use mathlib.Core.Path.{sym}
 use native.Mathlib.Omega.{arith}
 use lib.Seq.{length-take-le}

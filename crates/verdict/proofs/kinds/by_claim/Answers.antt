@@ -1,7 +1,6 @@
 -- `verdict::kinds::by_claim` meets its contract.
 use mathlib.Core.Path.{sym, subst}
 use Prim.Native.Nat.{◌≤◌}
-use borrow.Author.Tests.{not-true, not-false}
 use Rattle.meaning.specs.Text.ModelTable.{decode}
 use Rattle.meaning.specs.Text.ProposalTable as table
 use Rattle.meaning.proofs.Tests.{never}
@@ -24,7 +23,7 @@ returns-then-not-same_home c =
     let k = c.same_home in
     let y = c.home_at in
     elsewhere_judged c.args.model.now c.requires.right_table.0 c.args.t c.args.plan c.args.zones.now c.requires.right_table.1 c.args.claim c.requires.right_table.2 c.requires.right_table.3 y.result y.ensures
-    (λ h. never (k.ensures.1 h) (not-true k.result c.if-not-same_home.true-raw)) c.smallest.result c.smallest.ensures
+    (λ h. never (k.ensures.1 h) c.if-not-same_home.true) c.smallest.result c.smallest.ensures
 
 pub bounds_start-start-requires : goal.bounds_start-start-requires
 bounds_start-start-requires c =
@@ -56,7 +55,7 @@ returns-then-b c =
     let y = c.home_at in
     λ n x z st d o f.
     breaks_judged c.args.model.now c.requires.right_table.0 c.args.t c.args.plan c.args.zones.now c.requires.right_table.1 c.args.claim c.requires.right_table.2 c.requires.right_table.3 b.result b.ensures
-    r.result.found r.result.i r.result.j r.ensures y.result y.ensures (k.ensures.0 (not-false k.result c.if-not-same_home.false-raw)) n x z st d o f c.if-b.true c.broken_at.result
+    r.result.found r.result.i r.result.j r.ensures y.result y.ensures (k.ensures.0 c.if-not-same_home.false) n x z st d o f c.if-b.true c.broken_at.result
     (c.broken_at.ensures z st d)
 
 pub returns : goal.returns
@@ -68,4 +67,4 @@ returns c =
     λ n x z st d o f.
     subst (Judged (decode c.args.model.now) (table.decode c.args.zones.now) (following n x z st c.args.claim)) (sym c.holds.ensures)
     (clear_judged c.args.model.now c.requires.right_table.0 c.args.t c.args.plan c.args.zones.now c.requires.right_table.1 c.args.claim c.requires.right_table.2 c.requires.right_table.3 b.result b.ensures
-    r.result.found r.result.i r.result.j r.ensures y.result y.ensures (k.ensures.0 (not-false k.result c.if-not-same_home.false-raw)) n x z st d o f c.if-b.false)
+    r.result.found r.result.i r.result.j r.ensures y.result y.ensures (k.ensures.0 c.if-not-same_home.false) n x z st d o f c.if-b.false)

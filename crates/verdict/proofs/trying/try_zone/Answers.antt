@@ -1,5 +1,6 @@
 -- `verdict::trying::try_zone` meets its contract.
-use mathlib.Core.Path.{sym, subst}
+use mathlib.Core.Bool.{not}
+use mathlib.Core.Path.{ap, sym, subst}
 use Prim.Native.Nat.{◌+◌, ◌-◌}
 use native.Mathlib.Omega.{arith}
 use Rattle.meaning.specs.Text.ModelTable.{decode}
@@ -57,7 +58,7 @@ returns-then-not-is_clear c =
     let p = c.requires.right_table in
     let r = p.0.right in
     let v = c.loop-x-test.true in
-    tried_fails (decode a.model.now) (table.decode a.zones.now) a.n (table.zone_in a.zones.now (a.n - 1)) c.loop-x.x c.loop-x.invariant.2 c.try_place-found.result c.try_place-found.ensures c.is_clear.result c.is_clear.ensures c.if-not-is_clear.true-raw (omega (arith, v, c.claims-many.ensures, claims_many (decode a.model.now) r a.zones.now p.1 a.n p.2 p.3)) a.before (c.loop-x.number + 1) (omega (arith, c.loop-x.invariant.1))
+    tried_fails (decode a.model.now) (table.decode a.zones.now) a.n (table.zone_in a.zones.now (a.n - 1)) c.loop-x.x c.loop-x.invariant.2 c.try_place-found.result c.try_place-found.ensures c.is_clear.result c.is_clear.ensures (ap not c.if-not-is_clear.true) (omega (arith, v, c.claims-many.ensures, claims_many (decode a.model.now) r a.zones.now p.1 a.n p.2 p.3)) a.before (c.loop-x.number + 1) (omega (arith, c.loop-x.invariant.1))
 
 pub loop-x-smaller : goal.loop-x-smaller
 loop-x-smaller c =
@@ -67,7 +68,7 @@ pub loop-x-preserved : goal.loop-x-preserved
 loop-x-preserved c =
     let a = c.args in
     let v = c.loop-x-test.true in
-    (omega (arith, v), omega (arith, c.loop-x.invariant.1), tried_on (decode a.model.now) (table.decode a.zones.now) a.n (table.zone_in a.zones.now (a.n - 1)) c.loop-x.x c.loop-x.invariant.2 c.try_place-found.result c.try_place-found.ensures c.is_clear.result c.is_clear.ensures c.if-not-is_clear.false-raw)
+    (omega (arith, v), omega (arith, c.loop-x.invariant.1), tried_on (decode a.model.now) (table.decode a.zones.now) a.n (table.zone_in a.zones.now (a.n - 1)) c.loop-x.x c.loop-x.invariant.2 c.try_place-found.result c.try_place-found.ensures c.is_clear.result c.is_clear.ensures (ap not c.if-not-is_clear.false))
 
 pub returns : goal.returns
 returns c =

@@ -1,6 +1,5 @@
 -- `zone_text::reading_records::take_end` meets its contract.
 use mathlib.Core.Path.{sym, ◌∙◌}
-use borrow.Author.Tests.{not-true, not-false}
 use Rattle.zone_text.proofs.Laws.Orders.{took_wrong}
 use Rattle.zone_text.proofs.Laws.Ends.{took_closed, end_due, end_none, end_open, end_claims, end_more, end_closed}
 use native.Mathlib.Omega.{arith}
@@ -19,19 +18,19 @@ returns-then-x-eq0 c =
 pub returns-then-not-byte_is : goal.returns-then-not-byte_is
 returns-then-not-byte_is c =
     let a = c.args in
-    λ m y h. took_wrong _ y 4 _ _ _ (end_open m a.s.now a.at y a.x a.t.now h c.if-x.false c.if-x-eq0.false (sym c.byte_is.ensures ∙ not-true _ c.if-not-byte_is.true-raw))
+    λ m y h. took_wrong _ y 4 _ _ _ (end_open m a.s.now a.at y a.x a.t.now h c.if-x.false c.if-x-eq0.false (sym c.byte_is.ensures ∙ c.if-not-byte_is.true))
 
 pub returns-then-not-up_to_last : goal.returns-then-not-up_to_last
 returns-then-not-up_to_last c =
     let a = c.args in
-    λ m y h. took_wrong _ y 9 a.at _ _ (end_claims m a.s.now a.at y a.x a.t.now h c.if-x.false c.if-x-eq0.false (sym c.byte_is.ensures ∙ not-false _ c.if-not-byte_is.false-raw) (omega (arith, c.requires.pool, c.requires.zones)) (sym c.up_to_last.ensures ∙ not-true _ c.if-not-up_to_last.true-raw))
+    λ m y h. took_wrong _ y 9 a.at _ _ (end_claims m a.s.now a.at y a.x a.t.now h c.if-x.false c.if-x-eq0.false (sym c.byte_is.ensures ∙ c.if-not-byte_is.false) (omega (arith, c.requires.pool, c.requires.zones)) (sym c.up_to_last.ensures ∙ c.if-not-up_to_last.true))
 
 pub returns-then-at-s : goal.returns-then-at-s
 returns-then-at-s c =
     let a = c.args in
-    λ m y h. took_wrong _ y 3 _ _ _ (end_more m a.s.now a.at y a.x a.t.now h c.if-x.false c.if-x-eq0.false (sym c.byte_is.ensures ∙ not-false _ c.if-not-byte_is.false-raw) (omega (arith, c.requires.pool, c.requires.zones)) (sym c.up_to_last.ensures ∙ not-false _ c.if-not-up_to_last.false-raw) c.if-at-s.true)
+    λ m y h. took_wrong _ y 3 _ _ _ (end_more m a.s.now a.at y a.x a.t.now h c.if-x.false c.if-x-eq0.false (sym c.byte_is.ensures ∙ c.if-not-byte_is.false) (omega (arith, c.requires.pool, c.requires.zones)) (sym c.up_to_last.ensures ∙ c.if-not-up_to_last.false) c.if-at-s.true)
 
 pub returns : goal.returns
 returns c =
     let a = c.args in
-    λ m y h. took_closed m a.s.now a.at y a.t.now (end_closed m a.s.now a.at y a.x a.t.now h c.if-x.false c.if-x-eq0.false (sym c.byte_is.ensures ∙ not-false _ c.if-not-byte_is.false-raw) (omega (arith, c.requires.pool, c.requires.zones)) (sym c.up_to_last.ensures ∙ not-false _ c.if-not-up_to_last.false-raw) c.if-at-s.false)
+    λ m y h. took_closed m a.s.now a.at y a.t.now (end_closed m a.s.now a.at y a.x a.t.now h c.if-x.false c.if-x-eq0.false (sym c.byte_is.ensures ∙ c.if-not-byte_is.false) (omega (arith, c.requires.pool, c.requires.zones)) (sym c.up_to_last.ensures ∙ c.if-not-up_to_last.false) c.if-at-s.false)

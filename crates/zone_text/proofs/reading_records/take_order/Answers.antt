@@ -1,6 +1,5 @@
 -- `zone_text::reading_records::take_order` meets its contract.
 use mathlib.Core.Path.{sym, ◌∙◌}
-use borrow.Author.Tests.{not-true, not-false}
 use Rattle.meaning.specs.Text.ModelTable.{decode}
 use Rattle.model_table.proofs.PartLaws.{locations_is, tasks_is}
 use Rattle.zone_text.proofs.Laws.Orders.{took_wrong, order_due, order_full, order_refused, order_twice, order_taken}
@@ -29,7 +28,7 @@ pub returns-then-not-fits : goal.returns-then-not-fits
 returns-then-not-fits c =
     let a = c.args in
     λ y h. took_wrong _ y 6 a.at _ _ (order_twice (decode a.model.now) a.s.now a.at y a.x a.t.now h c.if-x.false c.if-x-ge48.false _ _ (c.locations.ensures ∙ locations_is a.model.now c.requires.0) (c.tasks.ensures ∙ tasks_is a.model.now c.requires.0) c.read_order-r.result _ _ c.head_start-q.ensures c.read_order-r.ensures.0
-    c.if-r-gt0.false c.read_order-r.ensures.1 c.home_with-home.result c.home_with-home.ensures (sym c.fits.ensures ∙ not-true _ c.if-not-fits.true-raw))
+    c.if-r-gt0.false c.read_order-r.ensures.1 c.home_with-home.result c.home_with-home.ensures (sym c.fits.ensures ∙ c.if-not-fits.true))
 
 pub overflow_cast-t : goal.overflow_cast-t
 overflow_cast-t c = let p = c.requires.1 in record { fits = omega (arith, p.pool, p.zones) }
@@ -41,4 +40,4 @@ pub returns : goal.returns
 returns c =
     let a = c.args in
     λ y h. order_taken (decode a.model.now) a.s.now a.at y a.x a.t.now h c.if-x.false c.if-x-ge48.false _ _ (c.locations.ensures ∙ locations_is a.model.now c.requires.0) (c.tasks.ensures ∙ tasks_is a.model.now c.requires.0) c.read_order-r.result _ _ c.head_start-q.ensures c.read_order-r.ensures.0
-    c.if-r-gt0.false c.read_order-r.ensures.1 c.home_with-home.result c.home_with-home.ensures (sym c.fits.ensures ∙ not-false _ c.if-not-fits.false-raw)
+    c.if-r-gt0.false c.read_order-r.ensures.1 c.home_with-home.result c.home_with-home.ensures (sym c.fits.ensures ∙ c.if-not-fits.false)

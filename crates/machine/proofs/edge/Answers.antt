@@ -3,16 +3,13 @@ use Rattle.machine.proofs.CellTests.{told_so, told_not}
 use Rattle.machine.proofs.LendLaws.{usable_lent}
 use Rattle.machine.proofs.edge.Goals as goal
 
--- src/lib.rt:75:9
 pub edge_given-requires : goal.edge_given-requires
 edge_given-requires c = usable_lent _ _ (told_so c.is_usable.result c.is_usable.ensures c.if-is_usable.true)
 
--- src/lib.rt:75:9
 pub returns-then-is_usable : goal.returns-then-is_usable
 returns-then-is_usable c = let u = told_so c.is_usable.result c.is_usable.ensures c.if-is_usable.true in
     record { unusable = λ h. absurd (h u); usable = λ h. c.edge_given.ensures }
 
--- src/lib.rt:71:1
 pub returns : goal.returns
 returns c = let h = told_not c.is_usable.result c.is_usable.ensures c.if-is_usable.false in
     record { unusable = λ g. c.refused.ensures; usable = λ u. absurd (h u) }

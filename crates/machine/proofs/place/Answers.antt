@@ -4,13 +4,11 @@ use Rattle.machine.proofs.SeenLaws.{looked_next}
 use Rattle.machine.proofs.PlaceLaws.{looked_whole}
 use Rattle.machine.proofs.place.Goals as goal
 
--- src/lib.rt:98:5
 pub loop-k-preserved : goal.loop-k-preserved
 loop-k-preserved c =
     let l = c.loop-k in
     (omega arith, looked_next _ _ c.args.jobs.now l.k l.s _ l.invariant.1 (omega arith) c.look-s.ensures)
 
--- src/lib.rt:93:1
 pub returns : goal.returns
 returns c =
     let l = c.loop-k in

@@ -7,16 +7,13 @@ use Rattle.machine.specs.Promise.{refused}
 use Rattle.machine.specs.declared.State.{State}
 use Rattle.machine.proofs.start.Goals as goal
 
--- src/lib.rt:55:9
 pub start_given-requires : goal.start_given-requires
 start_given-requires c = given_table _ (told_so c.is_given.result c.is_given.ensures c.if-is_given.true)
 
--- src/lib.rt:55:9
 pub returns-then-is_given : goal.returns-then-is_given
 returns-then-is_given c = let g = told_so c.is_given.result c.is_given.ensures c.if-is_given.true in
     record { unusable = λ h. absurd (h g); usable = λ h. c.start_given.ensures }
 
--- src/lib.rt:51:1
 pub returns : goal.returns
 returns c = let h = told_not c.is_given.result c.is_given.ensures c.if-is_given.false in
     record { unusable = λ g. c.refused.ensures ∙ ap (λ (s : State). refused not_proper 0 s) c.no_state.ensures; usable = λ g. absurd (h g) }

@@ -6,14 +6,11 @@ use lib.Dec.{ltb}
 use Prim.Native.Nat.{ℕ}
 use Rattle.model_table.proofs.reset.Goals as goal
 
--- src/lib.rt:112:9
 pub returns-then-clock-eq0 : goal.returns-then-clock-eq0
 returns-then-clock-eq0 c = sym (reset_zero _ _ _ c.if-clock-eq0.true)
 
--- src/lib.rt:115:9
 pub returns-then-clock-gt4 : goal.returns-then-clock-gt4
 returns-then-clock-gt4 c = sym (reset_out _ _ _ c.if-clock-gt4.true)
 
--- src/lib.rt:108:1
 pub returns : goal.returns
 returns c = ap (λ (x : ℕ). ltb 0 x) c.of_edge.ensures ∙ sym (reset_in_lem _ _ _ (omega arith) (omega arith))

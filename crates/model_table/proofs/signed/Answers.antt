@@ -14,11 +14,9 @@ use Rattle.model_table.proofs.signed.Goals as goal
 same : (v : ℕ) → 0 < v → v ≤ 20001 → to_z w32 v -ℤ pos 10001 ≡ lowered (v - 1)
 same v a b = rw (to_z_pos w32 v (omega arith)) (less_is v a)
 
--- src/lib.rt:104:5
 pub overflow_sub-result : goal.overflow_sub-result
 overflow_sub-result c = subst (SFits w32) (sym (same c.args.kept c.requires.0 c.requires.1)) (lowered_fits (c.args.kept - 1) (omega arith))
 
--- src/lib.rt:100:1
 pub returns : goal.returns
 returns c =
     let e = same c.args.kept c.requires.0 c.requires.1 in

@@ -7,15 +7,12 @@ use Rattle.lines.proofs.Laws.Putting.{put_cons}
 use Rattle.console.proofs.LineLaws.{digits_short}
 use Rattle.console.proofs.digits.write_field.Goals as goal
 
--- src/digits.rt:37:5
 pub write_digits-requires : goal.write_digits-requires
 write_digits-requires c = simp length-set (omega (arith, digits_short 20 c.args.v))
 
--- src/digits.rt:32:1
 pub shape_of-buf : goal.shape_of-buf
 shape_of-buf c = c.write_digits.auto.buf ∙ simp length-set
 
--- src/digits.rt:32:1
 pub returns : goal.returns
 returns c =
     let a = c.args in

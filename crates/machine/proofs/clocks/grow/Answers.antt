@@ -9,15 +9,12 @@ use Rattle.machine.proofs.ClockLaws.{grown_is}
 use native.Mathlib.Omega.{arith}
 use Rattle.machine.proofs.clocks.grow.Goals as goal
 
--- src/clocks.rt:29:5
 pub loop-k-init : goal.loop-k-init
 loop-k-init c = filled_start 0 4 _ _ refl
 
--- src/clocks.rt:29:5
 pub loop-k-preserved : goal.loop-k-preserved
 loop-k-preserved c = let l = c.loop-k in filled_more 0 4 _ l.r l.k c.grown.result l.invariant (omega arith) c.grown.ensures
 
--- src/clocks.rt:23:1
 pub returns : goal.returns
 returns c = let a = c.args in
     let l = c.loop-k in

@@ -9,11 +9,9 @@ use Rattle.machine.proofs.AllCells.{passed_start, passed_more, passed_stop, pass
 use native.Mathlib.Omega.{arith}
 use Rattle.machine.proofs.clocks.limits_met.Goals as goal
 
--- src/clocks.rt:52:5
 pub loop-k-init : goal.loop-k-init
 loop-k-init c = passed_start 4 _
 
--- src/clocks.rt:52:5
 pub loop-k-preserved : goal.loop-k-preserved
 loop-k-preserved c = let a = c.args in
     let l = c.loop-k in
@@ -22,7 +20,6 @@ loop-k-preserved c = let a = c.args in
     let e : c.limit_met.result ≡ h l.k = c.limit_met.ensures ∙ ap (λ (j : ℕ). limit_met (limit_in a.model.now a.location j) (get_or a.clocks l.k 0)) z in
     passed_more 4 h l.k c.limit_met.result l.invariant (omega arith) e c.if-limit_met.true
 
--- src/clocks.rt:56:13
 pub returns-else-limit_met : goal.returns-else-limit_met
 returns-else-limit_met c = let a = c.args in
     let l = c.loop-k in
@@ -31,7 +28,6 @@ returns-else-limit_met c = let a = c.args in
     let e : c.limit_met.result ≡ h l.k = c.limit_met.ensures ∙ ap (λ (j : ℕ). limit_met (limit_in a.model.now a.location j) (get_or a.clocks l.k 0)) z in
     sym (sym (every_collect _ 4 _ _) ∙ passed_stop 4 h l.k c.limit_met.result (omega arith) e c.if-limit_met.false)
 
--- src/clocks.rt:48:1
 pub returns : goal.returns
 returns c = let l = c.loop-k in
     sym (sym (every_collect _ 4 _ _) ∙ passed_end 4 _ l.k l.invariant (omega arith))

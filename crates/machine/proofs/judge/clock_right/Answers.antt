@@ -2,10 +2,8 @@
 use Rattle.machine.proofs.CellTests.{clock_has, clock_lacks}
 use Rattle.machine.proofs.judge.clock_right.Goals as goal
 
--- src/judge.rt:19:9
 pub returns-then-k-n : goal.returns-then-k-n
 returns-then-k-n c = let a = c.args in clock_has a.clocks a.n a.k c.if-k-n.true
 
--- src/judge.rt:14:1
 pub returns : goal.returns
 returns c = let a = c.args in clock_lacks a.clocks a.n a.k c.if-k-n.false

@@ -2,6 +2,5 @@
 use Rattle.machine.proofs.CellTests.{tells_by}
 use Rattle.machine.proofs.judge.is_given.Goals as goal
 
--- src/judge.rt:120:1
 pub returns : goal.returns
 returns c = tells_by c.is_model.result c.is_model.ensures.yes c.is_model.ensures.no

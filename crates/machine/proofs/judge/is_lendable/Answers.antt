@@ -12,15 +12,12 @@ use Rattle.machine.proofs.LendLaws.{lendable_make, lent_high, lent_few, lent_clo
 use Rattle.machine.proofs.CellTests.{tells_by}
 use Rattle.machine.proofs.judge.is_lendable.Goals as goal
 
--- src/judge.rt:99:9
 pub returns-then-locations-location : goal.returns-then-locations-location
 returns-then-locations-location c = λ w. omega (arith, lent_high c.args.model.now c.requires c.args.state w, c.locations.ensures)
 
--- src/judge.rt:103:9
 pub returns-then-count-gt6 : goal.returns-then-count-gt6
 returns-then-count-gt6 c = λ w. omega (arith, lent_few c.args.model.now c.requires c.args.state w)
 
--- src/judge.rt:109:13
 pub returns-then-queue_right : goal.returns-then-queue_right
 returns-then-queue_right c =
     let t = c.args.model.now in
@@ -33,12 +30,10 @@ returns-then-queue_right c =
     (λ h. lendable_make t c.requires s (omega arith) (omega (arith, c.locations.ensures)) (omega arith) k.long j.long (sym (k.is ∙ e) ∙ c.if-clocks_right.true) (sym j.is ∙ c.if-queue_right.true) (sym f ∙ h))
     (λ h w. never (f ∙ lent_fit t c.requires s w) h)
 
--- src/judge.rt:111:9
 pub returns-then-clocks_right : goal.returns-then-clocks_right
 returns-then-clocks_right c = λ w.
     never (c.queue_right.ensures.is ∙ lent_job_cells c.args.model.now c.requires c.args.state w) c.if-queue_right.false
 
--- src/judge.rt:90:1
 pub returns : goal.returns
 returns c = λ w.
     let t = c.args.model.now in

@@ -4,10 +4,8 @@ use native.Mathlib.Omega.{arith}
 use Rattle.machine.proofs.CellTests.{job_there, job_behind}
 use Rattle.machine.proofs.judge.job_right.Goals as goal
 
--- src/judge.rt:69:9
 pub returns-then-k-count : goal.returns-then-k-count
 returns-then-k-count c = let a = c.args in c.is_timely.ensures ∙ job_there a.model.now a.jobs a.count a.k (omega arith)
 
--- src/judge.rt:63:1
 pub returns : goal.returns
 returns c = let a = c.args in c.is_unused.ensures ∙ job_behind a.model.now a.jobs a.count a.k (omega arith)

@@ -6,22 +6,18 @@ use borrow.Author.Rules.{rules}
 use native.Mathlib.Omega.{arith}
 use Rattle.machine.proofs.judge.queue_right.Goals as goal
 
--- src/judge.rt:85:5
 pub loop-k-init : goal.loop-k-init
 loop-k-init c = passed_start 6 _
 
--- src/judge.rt:85:5
 pub loop-k-preserved : goal.loop-k-preserved
 loop-k-preserved c = let l = c.loop-k in
     passed_more 6 _ l.k c.job_right.result l.invariant (omega arith) c.job_right.ensures c.if-job_right.true
 
--- src/judge.rt:89:13
 pub returns-else-job_right : goal.returns-else-job_right
 returns-else-job_right c = let a = c.args in
     let l = c.loop-k in
     record { long = search rules; is = sym (passed_stop 6 (job_right a.model.now a.jobs a.count) l.k c.job_right.result (omega arith) c.job_right.ensures c.if-job_right.false) }
 
--- src/judge.rt:80:1
 pub returns : goal.returns
 returns c = let l = c.loop-k in
     record { long = search rules; is = sym (passed_end 6 _ l.k l.invariant (omega arith)) }

@@ -8,7 +8,6 @@ use borrow.Author.Rules.{rules}
 use native.Mathlib.Omega.{arith}
 use Rattle.machine.proofs.listed.ahead.Goals as goal
 
--- src/listed.rt:102:5
 pub loop-k-init : goal.loop-k-init
 loop-k-init c =
     let a = c.args in
@@ -16,7 +15,6 @@ loop-k-init c =
     let z = length-take-le a.count a.beaten (omega arith) in
     (e, sought_start _ _ (take a.count a.beaten) a.from (omega arith))
 
--- src/listed.rt:104:13
 pub returns-then-beaten-k : goal.returns-then-beaten-k
 returns-then-beaten-k c =
     let a = c.args in
@@ -24,7 +22,6 @@ returns-then-beaten-k c =
     let z = length-take-le a.count a.beaten (omega arith) in
     (sought_at _ false (take a.count a.beaten) a.from l.k l.invariant.1 (omega arith) (get_or-take a.count a.beaten l.k false (omega arith) ∙ c.if-beaten-k.true), omega arith)
 
--- src/listed.rt:102:5
 pub loop-k-preserved : goal.loop-k-preserved
 loop-k-preserved c =
     let a = c.args in
@@ -32,7 +29,6 @@ loop-k-preserved c =
     let z = length-take-le a.count a.beaten (omega arith) in
     (l.invariant.0, sought_more _ false (take a.count a.beaten) a.from l.k l.invariant.1 (omega arith) (get_or-take a.count a.beaten l.k false (omega arith) ∙ c.if-beaten-k.false))
 
--- src/listed.rt:97:1
 pub returns : goal.returns
 returns c =
     let a = c.args in

@@ -10,18 +10,15 @@ use Rattle.meaning.proofs.Hooks.{behind_le}
 use Rattle.machine.proofs.PlaceLaws.{said_over, said_at}
 use Rattle.machine.proofs.listed.position.Goals as goal
 
--- src/listed.rt:124:9
 pub returns-then-overflows : goal.returns-then-overflows
 returns-then-overflows c = let a = c.args in said_over (decode a.model.now) a.task a.k a.s (sym c.overflows.ensures ∙ c.if-overflows.true)
 
--- src/listed.rt:128:16
 pub ahead-requires : goal.ahead-requires
 ahead-requires c =
     let a = c.args in
     let h = behind_le (decode a.model.now) a.task (take a.k a.s.tasks) in
     (omega (arith, c.first_place-from.ensures, h, length-take a.k a.s.tasks), c.requires.1)
 
--- src/listed.rt:114:1
 pub returns : goal.returns
 returns c =
     let a = c.args in

@@ -14,17 +14,14 @@ use Rattle.machine.proofs.QueueLaws.{none_there, queue_length, queue_at}
 use Rattle.machine.proofs.JobLaws.{finishes_empty, finishes_head}
 use Rattle.machine.proofs.queue.finishes.Goals as goal
 
--- src/queue.rt:93:9
 pub returns-then-count-eq0 : goal.returns-then-count-eq0
 returns-then-count-eq0 c = let a = c.args in
     let e = queue_length a.jobs a.count (omega arith) in
     sym (finishes_empty (decode a.model.now) (queue_of a.jobs a.count) (omega arith))
 
--- src/queue.rt:96:38
 pub overflow_add-result : goal.overflow_add-result
 overflow_add-result c = record { fits = omega (arith, c.requires.2.done 0) }
 
--- src/queue.rt:88:1
 pub returns : goal.returns
 returns c = let a = c.args in
     let m = decode a.model.now in

@@ -10,11 +10,9 @@ use Rattle.meaning.specs.Machine.Tick.{is_late}
 use native.Mathlib.Omega.{arith}
 use Rattle.machine.proofs.queue.first_late.Goals as goal
 
--- src/queue.rt:113:5
 pub loop-k-init : goal.loop-k-init
 loop-k-init c = sought_start _ _ _ 0 (omega arith)
 
--- src/queue.rt:115:13
 pub returns-then-is_late : goal.returns-then-is_late
 returns-then-is_late c = let a = c.args in
     let l = c.loop-k in
@@ -24,7 +22,6 @@ returns-then-is_late c = let a = c.args in
     let z : l.k + 1 ≡ suc l.k = omega arith in
     z ∙ sym (first_met (is_late (decode a.model.now)) none_there q l.k l.invariant (omega arith) (at ∙ sym c.is_late.ensures ∙ c.if-is_late.true))
 
--- src/queue.rt:113:5
 pub loop-k-preserved : goal.loop-k-preserved
 loop-k-preserved c = let a = c.args in
     let l = c.loop-k in
@@ -33,7 +30,6 @@ loop-k-preserved c = let a = c.args in
     let at = ap (is_late (decode a.model.now)) (queue_at a.jobs a.count l.k (omega arith)) in
     sought_more _ none_there q 0 l.k l.invariant (omega arith) (at ∙ sym c.is_late.ensures ∙ c.if-is_late.false)
 
--- src/queue.rt:108:1
 pub returns : goal.returns
 returns c = let a = c.args in
     let l = c.loop-k in

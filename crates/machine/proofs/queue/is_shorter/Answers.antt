@@ -6,11 +6,9 @@ use lib.Dec.{ltb}
 use Rattle.machine.proofs.JobLaws.{shorter_over, shorter_owed}
 use Rattle.machine.proofs.queue.is_shorter.Goals as goal
 
--- src/queue.rt:146:9
 pub returns-then-work-done : goal.returns-then-work-done
 returns-then-work-done c = let a = c.args in shorter_over a.model.now a.task a.job (omega (arith, c.work-work.ensures))
 
--- src/queue.rt:140:1
 pub returns : goal.returns
 returns c = let a = c.args in
     let d = c.work-work.ensures in

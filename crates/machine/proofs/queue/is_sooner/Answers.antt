@@ -6,18 +6,15 @@ use lib.Dec.{ltb}
 use Rattle.machine.proofs.JobLaws.{sooner_older, sooner_tie, sooner_left}
 use Rattle.machine.proofs.queue.is_sooner.Goals as goal
 
--- src/queue.rt:129:9
 pub returns-then-due-age : goal.returns-then-due-age
 returns-then-due-age c = let a = c.args in sooner_older a.model.now a.task a.job (omega (arith, c.deadline-due.ensures))
 
--- src/queue.rt:134:9
 pub returns-then-fresh-left : goal.returns-then-fresh-left
 returns-then-fresh-left c = let a = c.args in
     let d = c.deadline-due.ensures in
     let e = c.deadline-fresh.ensures in
     sooner_tie a.model.now a.task a.job (omega arith) (omega arith)
 
--- src/queue.rt:122:1
 pub returns : goal.returns
 returns c = let a = c.args in
     let d = c.deadline-due.ensures in

@@ -5,10 +5,8 @@ use native.Mathlib.Omega.{arith}
 use Rattle.machine.specs.ByCell.{left_of}
 use Rattle.machine.proofs.queue.left.Goals as goal
 
--- src/queue.rt:80:13
 pub returns-then-count-eq0 : goal.returns-then-count-eq0
 returns-then-count-eq0 c = let a = c.args in let z : 0 ≡ a.count - 1 = omega arith in z ∙ ap (left_of a.count) (sym c.if-finishes.true)
 
--- src/queue.rt:82:9
 pub returns-then-finishes : goal.returns-then-finishes
 returns-then-finishes c = let a = c.args in ap (left_of a.count) (sym c.if-finishes.true)

@@ -11,7 +11,6 @@ use Rattle.machine.proofs.JobLaws.{beats_in_lem}
 use native.Mathlib.Omega.{arith}
 use Rattle.machine.proofs.queue.place_among.Goals as goal
 
--- src/queue.rt:188:5
 pub loop-k-init : goal.loop-k-init
 loop-k-init c =
     let a = c.args in
@@ -20,7 +19,6 @@ loop-k-init c =
     let e : c.first_place-k.result ≡ behind m a.task (order q) = c.first_place-k.ensures ∙ ap (behind m a.task) (ap (take a.count) c.tasks_of.ensures ∙ order_is a.jobs a.count) in
     subst (Sought (beats m a.task) none_there q (behind m a.task (order q))) (sym e) (sought_start _ none_there q _ (behind_queue m a.task q))
 
--- src/queue.rt:190:13
 pub returns-then-beats : goal.returns-then-beats
 returns-then-beats c =
     let a = c.args in
@@ -30,7 +28,6 @@ returns-then-beats c =
     let at = ap (beats (decode a.model.now) a.task) (queue_at a.jobs a.count l.k (omega arith)) in
     sought_at _ none_there q _ l.k l.invariant (omega arith) (at ∙ sym (beats_in_lem a.model.now c.requires.0 a.task _) ∙ sym c.beats.ensures ∙ c.if-beats.true)
 
--- src/queue.rt:188:5
 pub loop-k-preserved : goal.loop-k-preserved
 loop-k-preserved c =
     let a = c.args in
@@ -40,7 +37,6 @@ loop-k-preserved c =
     let at = ap (beats (decode a.model.now) a.task) (queue_at a.jobs a.count l.k (omega arith)) in
     sought_more _ none_there q _ l.k l.invariant (omega arith) (at ∙ sym (beats_in_lem a.model.now c.requires.0 a.task _) ∙ sym c.beats.ensures ∙ c.if-beats.false)
 
--- src/queue.rt:183:1
 pub returns : goal.returns
 returns c =
     let a = c.args in

@@ -10,7 +10,6 @@ use Rattle.machine.specs.Stands.{queue_of, cells_of}
 use Rattle.machine.proofs.QueueLaws.{queue_length}
 use Rattle.machine.proofs.queue.put.Goals as goal
 
--- src/queue.rt:242:5
 pub insert-requires : goal.insert-requires
 insert-requires c =
     let a = c.args in
@@ -19,7 +18,6 @@ insert-requires c =
     let h = place_of_high (decode a.model.now) a.task q in
     (c.requires.1, omega (arith, c.place_among-at.ensures, h, e))
 
--- src/queue.rt:237:1
 pub returns : goal.returns
 returns c =
     let a = c.args in

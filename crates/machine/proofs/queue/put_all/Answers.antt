@@ -11,11 +11,9 @@ use borrow.Author.Rules.{rules}
 use native.Mathlib.Omega.{arith}
 use Rattle.machine.proofs.queue.put_all.Goals as goal
 
--- src/queue.rt:264:5
 pub loop-k-init : goal.loop-k-init
 loop-k-init c = (search rules, search rules, omega arith, record { is = c.requires.count_bound.2 })
 
--- src/queue.rt:264:5
 pub loop-k-preserved : goal.loop-k-preserved
 loop-k-preserved c =
     let a = c.args in
@@ -23,7 +21,6 @@ loop-k-preserved c =
     let e = queue_length a.jobs a.count (omega (arith, l.invariant.1)) in
     (l.invariant.0, l.invariant.1, omega arith, put_more (decode a.model.now) a.releases.tasks (queue_of a.jobs a.count) a.count (sym e) l.r _ l.k l.invariant.3 (omega (arith, l.invariant.0)) (omega arith) c.put-next.ensures)
 
--- src/queue.rt:255:1
 pub returns : goal.returns
 returns c =
     let a = c.args in

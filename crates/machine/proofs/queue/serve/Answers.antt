@@ -9,15 +9,12 @@ use Rattle.machine.proofs.QueueLaws.{after_cells}
 use native.Mathlib.Omega.{arith}
 use Rattle.machine.proofs.queue.serve.Goals as goal
 
--- src/queue.rt:67:5
 pub loop-k-init : goal.loop-k-init
 loop-k-init c = filled_start no_job 6 _ _ refl
 
--- src/queue.rt:67:5
 pub loop-k-preserved : goal.loop-k-preserved
 loop-k-preserved c = let l = c.loop-k in filled_more no_job 6 _ l.r l.k c.job_after.result l.invariant (omega arith) c.job_after.ensures
 
--- src/queue.rt:57:1
 pub returns : goal.returns
 returns c = let a = c.args in
     let l = c.loop-k in

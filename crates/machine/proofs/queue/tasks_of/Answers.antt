@@ -6,17 +6,14 @@ use borrow.Author.Rules.{rules}
 use native.Mathlib.Omega.{arith}
 use Rattle.machine.proofs.queue.tasks_of.Goals as goal
 
--- src/queue.rt:174:5
 pub loop-k-init : goal.loop-k-init
 loop-k-init c = (search rules, filled_start 0 6 _ _ refl)
 
--- src/queue.rt:174:5
 pub loop-k-preserved : goal.loop-k-preserved
 loop-k-preserved c =
     let l = c.loop-k in
     (l.invariant.0, filled_more 0 6 _ l.r l.k _ l.invariant.1 (omega arith) refl)
 
--- src/queue.rt:169:1
 pub returns : goal.returns
 returns c =
     let l = c.loop-k in

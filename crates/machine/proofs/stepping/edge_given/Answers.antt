@@ -3,19 +3,16 @@ use mathlib.Core.Path.{sym, ◌∙◌}
 use Rattle.machine.proofs.StepLaws.{edge_elsewhere, edge_guarded, edge_moved}
 use Rattle.machine.proofs.stepping.edge_given.Goals as goal
 
--- src/stepping.rt:153:13
 pub returns-then-guard_holds : goal.returns-then-guard_holds
 returns-then-guard_holds c =
     c.moved.ensures
     ∙ edge_moved c.args.model.now c.requires.table c.args.state c.requires.lendable c.args.number (sym c.leaves.ensures ∙ c.if-leaves.true) (sym c.guard_holds.ensures ∙ c.if-guard_holds.true) _ c.reset-after.ensures
 
--- src/stepping.rt:155:9
 pub returns-then-leaves : goal.returns-then-leaves
 returns-then-leaves c =
     c.refused.ensures
     ∙ edge_guarded c.args.model.now c.requires.table c.args.state c.requires.lendable c.args.number (sym c.leaves.ensures ∙ c.if-leaves.true) (sym c.guard_holds.ensures ∙ c.if-guard_holds.false)
 
--- src/stepping.rt:145:1
 pub returns : goal.returns
 returns c =
     c.refused-2.ensures

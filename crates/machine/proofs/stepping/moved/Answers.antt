@@ -16,11 +16,9 @@ use Rattle.machine.proofs.StepLaws.{moved_over, moved_went, moved_room}
 use borrow.Author.Rules.{rules}
 use Rattle.machine.proofs.stepping.moved.Goals as goal
 
--- src/stepping.rt:125:8
 pub overflows-requires : goal.overflows-requires
 overflows-requires c = record { right_table = c.requires.table; count_bound = (lent_few c.args.model.now c.requires.table c.args.state c.requires.lendable, c.released_by-releases.ensures.few) }
 
--- src/stepping.rt:126:9
 pub returns-then-overflows : goal.returns-then-overflows
 returns-then-overflows c =
     let over : c.overflows.result ≡ overflows_any (decode c.args.model.now) (released_by (decode c.args.model.now) c.args.number) (order (queue_of c.args.state.jobs c.args.state.count)) =
@@ -28,7 +26,6 @@ returns-then-overflows c =
     c.overflows.ensures ∙ ap₂ (overflows_any (decode a.model.now)) c.released_by-releases.ensures.is (ap (take a.state.count) c.tasks_of.ensures ∙ order_is a.state.jobs a.state.count)) in
     moved_over c.args.model.now c.requires.table c.args.state c.requires.lendable c.args.number c.args.clocks (sym (over) ∙ c.if-overflows.true)
 
--- src/stepping.rt:131:9
 pub put_all-next-requires : goal.put_all-next-requires
 put_all-next-requires c =
     let many : length (released_by (decode c.args.model.now) c.args.number) ≡ c.released_by-releases.result.count =
@@ -42,7 +39,6 @@ put_all-next-requires c =
     let w = c.requires.lendable in
     record { right_table = g; count_bound = (c.released_by-releases.ensures.few, omega (arith, many, moved_room t g s w c.args.number (sym (over) ∙ c.if-overflows.false)), lent_jobs t g s w) }
 
--- src/stepping.rt:136:16
 pub overflow_add-after : goal.overflow_add-after
 overflow_add-after c =
     let many : length (released_by (decode c.args.model.now) c.args.number) ≡ c.released_by-releases.result.count =
@@ -53,7 +49,6 @@ overflow_add-after c =
     let r = moved_room c.args.model.now c.requires.table c.args.state c.requires.lendable c.args.number (sym (over) ∙ c.if-overflows.false) in
     record { fits = omega (arith, many, r) }
 
--- src/stepping.rt:118:1
 pub returns : goal.returns
 returns c =
     let many : length (released_by (decode c.args.model.now) c.args.number) ≡ c.released_by-releases.result.count =

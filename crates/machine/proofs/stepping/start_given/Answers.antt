@@ -14,7 +14,6 @@ use Rattle.machine.proofs.StepLaws.{start_held}
 use borrow.Author.Rules.{rules}
 use Rattle.machine.proofs.stepping.start_given.Goals as goal
 
--- src/stepping.rt:161:1
 pub returns : goal.returns
 returns c =
     let m = decode c.args.model.now in

@@ -16,7 +16,6 @@ use Rattle.machine.specs.ByCell.{all_to}
 use Rattle.machine.proofs.StepLaws.{tick_allowed, tick_within, tick_answered, tick_ended, tick_broken}
 use Rattle.machine.proofs.stepping.tick_given.Goals as goal
 
--- src/stepping.rt:91:9
 pub grow-grown-requires : goal.grow-grown-requires
 grow-grown-requires c = let t = c.args.model.now in
     let s = c.args.state in
@@ -25,7 +24,6 @@ grow-grown-requires c = let t = c.args.model.now in
     let k = c.clocks.ensures ∙ clocks_is t g in
     (omega (arith, g.right.clocks), lent_small t g s w)
 
--- src/stepping.rt:94:13
 pub ticked-requires : goal.ticked-requires
 ticked-requires c = let t = c.args.model.now in
     let s = c.args.state in
@@ -35,7 +33,6 @@ ticked-requires c = let t = c.args.model.now in
     let z : c.grow-grown.result ≡ padded 0 4 (map suc (take (decode t).clocks s.clocks)) = c.grow-grown.ensures ∙ ap (λ (n : ℕ). padded 0 4 (map suc (take n s.clocks))) k in
     (c.requires, z)
 
--- src/stepping.rt:94:13
 pub returns-then-within_end : goal.returns-then-within_end
 returns-then-within_end c = let t = c.args.model.now in
     let s = c.args.state in
@@ -47,7 +44,6 @@ returns-then-within_end c = let t = c.args.model.now in
     let wi = sym (tick_within t g s w) ∙ ap (λ (cs : List ℕ). all_to 4 (λ (i : ℕ). leb (get_or cs i 0) clock_most)) (sym z) ∙ sym c.within_end.ensures in
     c.ticked.ensures ∙ tick_answered t g s w (al ∙ c.if-limits_met.true) (wi ∙ c.if-within_end.true)
 
--- src/stepping.rt:96:9
 pub returns-then-limits_met : goal.returns-then-limits_met
 returns-then-limits_met c = let t = c.args.model.now in
     let s = c.args.state in
@@ -59,7 +55,6 @@ returns-then-limits_met c = let t = c.args.model.now in
     let wi = sym (tick_within t g s w) ∙ ap (λ (cs : List ℕ). all_to 4 (λ (i : ℕ). leb (get_or cs i 0) clock_most)) (sym z) ∙ sym c.within_end.ensures in
     c.refused.ensures ∙ tick_ended t g s w (al ∙ c.if-limits_met.true) (wi ∙ c.if-within_end.false)
 
--- src/stepping.rt:86:1
 pub returns : goal.returns
 returns c = let t = c.args.model.now in
     let s = c.args.state in

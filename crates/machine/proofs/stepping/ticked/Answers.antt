@@ -9,7 +9,6 @@ use Rattle.machine.specs.declared.State.{State}
 use Rattle.machine.proofs.StepLaws.{left_few, ticked_late, ticked_state, told_went, told_missed}
 use Rattle.machine.proofs.stepping.ticked.Goals as goal
 
--- src/stepping.rt:63:9
 pub finishes-last-requires : goal.finishes-last-requires
 finishes-last-requires c = let t = c.args.model.now in
     let s = c.args.state in
@@ -17,7 +16,6 @@ finishes-last-requires c = let t = c.args.model.now in
     let w = c.requires.0.lendable in
     (g, lent_few t g s w, lent_young t g s w (work_small t g) (deadline_small t g))
 
--- src/stepping.rt:64:9
 pub serve-next-requires : goal.serve-next-requires
 serve-next-requires c = let t = c.args.model.now in
     let s = c.args.state in
@@ -25,7 +23,6 @@ serve-next-requires c = let t = c.args.model.now in
     let w = c.requires.0.lendable in
     (lent_few t g s w, lent_young t g s w (work_small t g) (deadline_small t g))
 
--- src/stepping.rt:66:9
 pub first_late-late-requires : goal.first_late-late-requires
 first_late-late-requires c = let t = c.args.model.now in
     let s = c.args.state in
@@ -33,7 +30,6 @@ first_late-late-requires c = let t = c.args.model.now in
     let w = c.requires.0.lendable in
     (g, left_few t g s w _ _ _ c.serve-next.ensures c.left-rest.ensures)
 
--- src/stepping.rt:71:16
 pub overflow_cast-after : goal.overflow_cast-after
 overflow_cast-after c = let t = c.args.model.now in
     let s = c.args.state in
@@ -41,7 +37,6 @@ overflow_cast-after c = let t = c.args.model.now in
     let w = c.requires.0.lendable in
     record { fits = omega (arith, left_few t g s w _ _ _ c.serve-next.ensures c.left-rest.ensures) }
 
--- src/stepping.rt:74:9
 pub returns-then-late-eq0 : goal.returns-then-late-eq0
 returns-then-late-eq0 c = let t = c.args.model.now in
     let s = c.args.state in
@@ -54,7 +49,6 @@ returns-then-late-eq0 c = let t = c.args.model.now in
     let z = ticked_state t g s w _ _ _ e r c.args.grown c.requires.1 f in
     ap went z ∙ sym (told_went s _ _ (sym k ∙ c.if-late-eq0.true))
 
--- src/stepping.rt:57:1
 pub returns : goal.returns
 returns c = let t = c.args.model.now in
     let s = c.args.state in

@@ -10,25 +10,21 @@ use Rattle.machine.proofs.AllCells.{passed_start, passed_more, passed_stop, pass
 use native.Mathlib.Omega.{arith}
 use Rattle.machine.proofs.stepping.within_end.Goals as goal
 
--- src/stepping.rt:46:5
 pub loop-k-init : goal.loop-k-init
 loop-k-init c = passed_start 4 _
 
--- src/stepping.rt:46:5
 pub loop-k-preserved : goal.loop-k-preserved
 loop-k-preserved c = let a = c.args in
     let l = c.loop-k in
     let h : ℕ → Bool = λ (i : ℕ). leb (get_or a.clocks i 0) clock_most in
-    passed_more 4 h l.k _ l.invariant (omega arith) refl (le-leb _ _ c.if-clocks-k-le32000.true)
+    passed_more 4 h l.k _ l.invariant (omega arith) refl (le-leb (get_or a.clocks l.k 0) 32000 (omega arith))
 
--- src/stepping.rt:50:13
 pub returns-else-clocks-k-le32000 : goal.returns-else-clocks-k-le32000
 returns-else-clocks-k-le32000 c = let a = c.args in
     let l = c.loop-k in
     let h : ℕ → Bool = λ (i : ℕ). leb (get_or a.clocks i 0) clock_most in
-    sym (passed_stop 4 h l.k _ (omega arith) refl (lt-leb _ _ c.if-clocks-k-le32000.false))
+    sym (passed_stop 4 h l.k _ (omega arith) refl (lt-leb (get_or a.clocks l.k 0) 32000 (omega arith)))
 
--- src/stepping.rt:42:1
 pub returns : goal.returns
 returns c = let a = c.args in
     let l = c.loop-k in

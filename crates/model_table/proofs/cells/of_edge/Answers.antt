@@ -4,14 +4,11 @@ use mathlib.Core.Path.{sym, ◌∙◌}
 use native.Mathlib.Omega.{arith}
 use Rattle.model_table.proofs.cells.of_edge.Goals as goal
 
--- src/cells.rt:55:9
 pub returns-then-edge-eq0 : goal.returns-then-edge-eq0
 returns-then-edge-eq0 c = sym (edge_zero _ _ _ c.if-edge-eq0.true)
 
--- src/cells.rt:58:9
 pub returns-then-edge-gt32 : goal.returns-then-edge-gt32
 returns-then-edge-gt32 c = sym (edge_out _ _ _ c.if-edge-gt32.true)
 
--- src/cells.rt:50:1
 pub returns : goal.returns
 returns c = c.cell.ensures ∙ sym (edge_in _ _ _ (omega arith) (omega arith))

@@ -4,14 +4,11 @@ use mathlib.Core.Path.{sym, ◌∙◌}
 use native.Mathlib.Omega.{arith}
 use Rattle.model_table.proofs.cells.of_location.Goals as goal
 
--- src/cells.rt:41:9
 pub returns-then-location-eq0 : goal.returns-then-location-eq0
 returns-then-location-eq0 c = sym (location_zero _ _ _ c.if-location-eq0.true)
 
--- src/cells.rt:44:9
 pub returns-then-location-gt16 : goal.returns-then-location-gt16
 returns-then-location-gt16 c = sym (location_out _ _ _ c.if-location-gt16.true)
 
--- src/cells.rt:36:1
 pub returns : goal.returns
 returns c = c.cell.ensures ∙ sym (location_in _ _ _ (omega arith) (omega arith))

@@ -7,11 +7,9 @@ use Rattle.model_table.proofs.CountLaws.{count_step, count_none}
 use native.Mathlib.Omega.{arith}
 use Rattle.model_table.proofs.counts.count_from.Goals as goal
 
--- src/counts.rt:24:5
 pub loop-k-init : goal.loop-k-init
 loop-k-init c = (omega arith, omega arith, omega arith, omega arith, sym (count_none _ _ _))
 
--- src/counts.rt:24:5
 pub loop-k-preserved : goal.loop-k-preserved
 loop-k-preserved c =
     let a = c.args in
@@ -24,7 +22,6 @@ loop-k-preserved c =
       sym (count_step a.model.now a.from a.step l.k _ (ap (there a.model.now) (sym e)) ∙ ap (λ (x : ℕ). x + pick (there a.model.now l.p) 1 0) (sym l.invariant.4) ∙ ap (λ (x : ℕ). l.c + x) (sym c.one_if-c.ensures.0)),
     )
 
--- src/counts.rt:17:1
 pub returns : goal.returns
 returns c =
     let a = c.args in

@@ -3,6 +3,5 @@ use mathlib.Core.Path.{◌∙◌}
 use Rattle.model_table.proofs.CountLaws.{edges_count}
 use Rattle.model_table.proofs.counts.edges.Goals as goal
 
--- src/counts.rt:47:1
 pub returns : goal.returns
 returns c = c.count_from.ensures ∙ edges_count _

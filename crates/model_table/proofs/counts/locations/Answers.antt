@@ -3,6 +3,5 @@ use mathlib.Core.Path.{◌∙◌}
 use Rattle.model_table.proofs.CountLaws.{locations_count}
 use Rattle.model_table.proofs.counts.locations.Goals as goal
 
--- src/counts.rt:40:1
 pub returns : goal.returns
 returns c = c.count_from.ensures ∙ locations_count _

@@ -3,6 +3,5 @@ use mathlib.Core.Path.{◌∙◌}
 use Rattle.model_table.proofs.CountLaws.{tasks_count}
 use Rattle.model_table.proofs.counts.tasks.Goals as goal
 
--- src/counts.rt:33:1
 pub returns : goal.returns
 returns c = c.count_from.ensures ∙ tasks_count _

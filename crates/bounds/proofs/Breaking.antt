@@ -1,13 +1,13 @@
 -- A claimed bound against the reached entry: where the entry is not above it, the image of no solution breaks it; where it is, that of some solution does. And the smallest solution that breaks a bound.
 -- Assumes nothing.
 use mathlib.Core.Path.{◌≡◌, subst₂}
-use mathlib.Core.Bool.{Bool, true, false}
 use mathlib.Core.List.{List}
 use mathlib.Core.Logic.{inl, inr}
 use Prim.Native.Nat.{ℕ, ◌+◌, ◌-◌, ◌*◌, ◌<◌, ◌≤◌}
 use native.Mathlib.Omega.{arith}
 use native.Mathlib.Decide.{dec_lt, dec_le}
 use lib.IntN.{ℤ, pos, neg_ℤ, ◌-ℤ◌}
+use Rattle.std.specs.Prelude.{None, Some}
 use Rattle.meaning.specs.Numbers.{over, under}
 use Rattle.bounds.specs.Matrix.{ent, at, Finite, Entries, Meets, Sol, Closed}
 use Rattle.bounds.specs.Images.{var, Map, Image}
@@ -147,14 +147,13 @@ exceeds_meets i j c c' x o h = omega arith
 pub meets_exceeds : (i j : ℕ) (c c' : ℤ) (x : ℕ → ℕ) → Negated c c' → Meets j i c' x → Exceeds i j c x
 meets_exceeds i j c c' x o h = omega arith
 
-module _ (m : List ℤ) (n i j : ℕ) (c c' : ℤ) (o : Negated c c') (empty : Bool) (r : List ℤ) (t : Tightened m n j i c' empty r) where
-  pub none_breaks : empty ≡ true → (x : ℕ → ℕ) → Sol (at m) n x → Exceeds i j c x → ⊥
-  none_breaks e x s h = (t.nothing e).0 x s (exceeds_meets i j c c' x o h)
+module _ (m : List ℤ) (n i j : ℕ) (c c' : ℤ) (o : Negated c c') where
+  pub none_breaks : Tightened m n j i c' None → (x : ℕ → ℕ) → Sol (at m) n x → Exceeds i j c x → ⊥
+  none_breaks t x s h = t x s (exceeds_meets i j c c' x o h)
 
-  pub least_breaking : empty ≡ false → (s : List ℕ) → Smallest r n s
+  pub least_breaking : (r : List ℤ) → Tightened m n j i c' (Some r) → (s : List ℕ) → Smallest r n s
       → Sol (at m) n (var s) × Exceeds i j c (var s) × ((x : ℕ → ℕ) → Sol (at m) n x → Exceeds i j c x → (k : ℕ) → k < n → var s k ≤ x k)
-  least_breaking e s l =
-      let d = t.done e in
+  least_breaking r d s l =
       let w = d.sound (var s) l.sol in
       (w.0, meets_exceeds i j c c' (var s) o w.1, λ x p h. l.least x (d.whole x p (exceeds_meets i j c c' x o h)))
 

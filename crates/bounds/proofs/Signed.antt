@@ -5,8 +5,8 @@ use mathlib.Core.Bool.{Bool, true, false, not}
 use Prim.Native.Nat.{◌+◌, ◌^◌, ◌<◌, ◌≤◌}
 use native.Mathlib.Omega.{arith}
 use lib.Dec.{T, ltb→lt, nltb→le, leb→le, nleb→lt, le→leb}
-use lib.IntN.{ℤ, pos, negsuc, neg_ℤ, nat_abs, ◌+ℤ◌, ◌-ℤ◌}
-use lib.Signed.{◌≤ℤ◌, le_z, lt_z, mag, non_neg, le_z_yes}
+use lib.IntN.{ℤ, pos, negsuc, neg_ℤ, ◌+ℤ◌, ◌-ℤ◌}
+use lib.Signed.{◌≤ℤ◌, le_z, lt_z, mag, le_z_yes}
 use mir.Syntax.{w32}
 use mir.Val.{SFits, to_z, of_z}
 use mir.Facts.{to_z-of_z}
@@ -115,14 +115,5 @@ sum_fits f g h k = fits_make (omega (arith, sum_at f g)) (omega (arith, sum_at f
 
 pub diff_fits : {a b : ℤ} → SFits w32 a → SFits w32 b → over a + under b < 2 ^ 31 + under a + over b → under a + over b ≤ 2 ^ 31 + over a + under b → SFits w32 (rd a -ℤ rd b)
 diff_fits f g h k = fits_make (omega (arith, diff_at f g)) (omega (arith, diff_at f g))
-
--- a number that is not below 0, cast to a natural
-pub nonneg_make : (z : ℤ) → under z ≤ over z → T (non_neg z)
-nonneg_make (pos n) h = tt
-nonneg_make (negsuc n) h = absurd (omega arith)
-
-pub abs_law : (z : ℤ) → under z ≤ over z → nat_abs z + under z ≡ over z
-abs_law (pos n) h = omega arith
-abs_law (negsuc n) h = absurd (omega arith)
 
 pub ruleset signed = (arith, le_read, lt_true, lt_false, le_true, le_false, le_make)

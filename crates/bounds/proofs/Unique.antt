@@ -1,7 +1,6 @@
 -- Any two results that a contract allows coincide.
 -- Assumes nothing.
-use mathlib.Core.Path.{◌≡◌, refl, sym, ◌∙◌, subst}
-use mathlib.Core.Bool.{Bool, true, false}
+use mathlib.Core.Path.{◌≡◌, refl, sym, ◌∙◌, ap, subst}
 use mathlib.Core.List.{List}
 use mathlib.Core.Logic.{inl, inr}
 use Prim.Native.Nat.{ℕ, ◌+◌, ◌*◌, ◌/◌, ◌%◌, ◌<◌, ◌≤◌}
@@ -10,12 +9,14 @@ use native.Mathlib.Decide.{dec_lt, dec_le, ℕ_discrete}
 use lib.IntN.{ℤ, pos, ◌+ℤ◌}
 use lib.ListN.{length}
 use lib.Seq.{ext_get_or}
+use Rattle.std.specs.Prelude.{Option, None, Some, IfSome}
 use Rattle.meaning.specs.Numbers.{over, under}
 use Rattle.bounds.specs.Matrix.{ent, at, Outside, Finite, Stored, Sol, Closed}
 use Rattle.bounds.specs.Images.{var, Map, Maps}
 use Rattle.bounds.specs.Claims.{Before}
-use Rattle.bounds.specs.Results.{Got, Widest, Tightened, Remapped, Smallest, FirstBroken}
+use Rattle.bounds.specs.Results.{Got, Widest, Tightened, Remapped, Smallest, FirstAt, FirstBroken}
 use Rattle.bounds.specs.Inner.{Shift, Claimed}
+use Rattle.bounds.specs.declared.broken.Broken.{Broken}
 use Rattle.meaning.proofs.Numbers.{parts_one}
 use Rattle.bounds.proofs.Signed.{sum_law}
 use Rattle.bounds.proofs.Points.{finite?, far, far_sol, far_apart}
@@ -66,26 +67,20 @@ top_unique r r' l l' w w' = ext_get_or (pos 0) r r' (l ∙ sym l') (λ k h.
     (w.entries (k / 17 * 17 + k % 17) (omega arith)).most (w'.entries (k / 17 * 17 + k % 17) (omega arith)).most
     (λ x s. w'.all x s.zero) (λ x s. w.all x s.zero)))
 
-pub tighten_unique : (m : List ℤ) (n i j : ℕ) (c : ℤ) (e e' : Bool) (r r' : List ℤ) → n ≤ 17 → length r ≡ 289 → length r' ≡ 289
-    → Tightened m n i j c e r → Tightened m n i j c e' r' → (e ≡ e') × (r ≡ r')
-tighten_unique m n i j c true true r r' hn l l' t t' = (refl, (t.nothing refl).1 ∙ sym (t'.nothing refl).1)
-tighten_unique m n i j c true false r r' hn l l' t t' =
-    let d = t'.done refl in
+pub tighten_unique : (m : List ℤ) (n i j : ℕ) (c : ℤ) (r r' : Option (List ℤ)) → n ≤ 17 → IfSome r (λ t. length t ≡ 289) → IfSome r' (λ t. length t ≡ 289)
+    → Tightened m n i j c r → Tightened m n i j c r' → r ≡ r'
+tighten_unique m n i j c None None hn l l' t t' = refl
+tighten_unique m n i j c None (Some r') hn l l' t d =
     let s = d.sound d.some.0 d.some.1 in
-    absurd ((t.nothing refl).0 d.some.0 s.0 s.1)
-tighten_unique m n i j c false true r r' hn l l' t t' =
-    let d = t.done refl in
+    absurd (t d.some.0 s.0 s.1)
+tighten_unique m n i j c (Some r) None hn l l' d t =
     let s = d.sound d.some.0 d.some.1 in
-    absurd ((t'.nothing refl).0 d.some.0 s.0 s.1)
-tighten_unique m n i j c false false r r' hn l l' t t' =
-    let d = t.done refl in
-    let d' = t'.done refl in (
-      refl,
-      matrix_same n r r' hn l l' d.closed d'.closed d.stored d'.stored
-          (λ x s. let w = d.sound x s in d'.whole x w.0 w.1)
-          (λ x s. let w = d'.sound x s in d.whole x w.0 w.1)
-          (λ k o. d.outside k o ∙ sym (d'.outside k o)),
-    )
+    absurd (t d.some.0 s.0 s.1)
+tighten_unique m n i j c (Some r) (Some r') hn l l' d d' =
+    ap Some (matrix_same n r r' hn l l' d.closed d'.closed d.stored d'.stored
+    (λ x s. let w = d.sound x s in d'.whole x w.0 w.1)
+    (λ x s. let w = d'.sound x s in d.whole x w.0 w.1)
+    (λ k o. d.outside k o ∙ sym (d'.outside k o)))
 
 pub remap_unique : (m : List ℤ) (n : ℕ) (p : List ℕ) (off r r' : List ℤ) → n ≤ 17 → length r ≡ 289 → length r' ≡ 289 → Maps m n p off
     → ((n₀ : ℕ) → Closed (at m) n₀ → Map (at m) n₀ n (var p) (ent off) → Remapped m n₀ n p off r)
@@ -107,44 +102,43 @@ least_unique m n r r' l l' s s' = ext_get_or 0 r r' (l ∙ sym l') (λ k h. go k
 
 module _ (m : List ℤ) (n₀ n : ℕ) (p : List ℕ) (off : List ℤ) (claims : List ℕ) (start : ℕ) where
   -- of two first broken bounds neither comes before the other
-  not_before : (i j i' j' : ℕ) → FirstBroken m n₀ n p off claims start true i j → FirstBroken m n₀ n p off claims start true i' j' → Before i j i' j' → ⊥
+  not_before : (i j i' j' : ℕ) → FirstAt m n₀ n p off claims start i j → FirstAt m n₀ n p off claims start i' j' → Before i j i' j' → ⊥
   not_before i j i' j' f f' h =
-      let b = f.here refl in
-      let w = f.inside refl in
-      f'.first refl i j w.0 w.1 h b.x b.y b.sol b.image b.breaks
+      let b = f.here in
+      f'.first i j f.inside.0 f.inside.1 h b.x b.y b.sol b.image b.breaks
 
-  clash : (i j i' j' : ℕ) → FirstBroken m n₀ n p off claims start true i j → FirstBroken m n₀ n p off claims start false i' j' → ⊥
-  clash i j i' j' f f' =
-      let b = f.here refl in
-      let w = f.inside refl in
-      f'.nowhere refl i j w.0 w.1 b.x b.y b.sol b.image b.breaks
+  clash : (i j : ℕ) → FirstAt m n₀ n p off claims start i j → FirstBroken m n₀ n p off claims start None → ⊥
+  clash i j f none =
+      let b = f.here in
+      none i j f.inside.0 f.inside.1 b.x b.y b.sol b.image b.breaks
 
-  same_answer : (found found' : Bool) (i j i' j' : ℕ) → FirstBroken m n₀ n p off claims start found i j → FirstBroken m n₀ n p off claims start found' i' j'
-      → (found ≡ found') × (i ≡ i') × (j ≡ j')
-  same_answer true false i j i' j' f f' = absurd (clash i j i' j' f f')
-  same_answer false true i j i' j' f f' = absurd (clash i' j' i j f' f)
-  same_answer false false i j i' j' f f' =
-      let z = f.zeros refl in
-      let z' = f'.zeros refl in
-      (refl, z.0 ∙ sym z'.0, z.1 ∙ sym z'.1)
-  same_answer true true i j i' j' f f' = rows (dec_lt i i') (dec_lt i' i)
+  same_place : (i j i' j' : ℕ) → FirstAt m n₀ n p off claims start i j → FirstAt m n₀ n p off claims start i' j' → (i ≡ i') × (j ≡ j')
+  same_place i j i' j' f f' = rows (dec_lt i i') (dec_lt i' i)
     where
-      columns : i ≡ i' → Dec (j < j') → Dec (j' < j) → (true ≡ true) × (i ≡ i') × (j ≡ j')
+      columns : i ≡ i' → Dec (j < j') → Dec (j' < j) → (i ≡ i') × (j ≡ j')
       columns e (yes l) q = absurd (not_before i j i' j' f f' (inr (e, l)))
       columns e (no l) (yes q) = absurd (not_before i' j' i j f' f (inr (sym e, q)))
-      columns e (no l) (no q) = (refl, e, omega arith)
+      columns e (no l) (no q) = (e, omega arith)
 
-      rows : Dec (i < i') → Dec (i' < i) → (true ≡ true) × (i ≡ i') × (j ≡ j')
+      rows : Dec (i < i') → Dec (i' < i) → (i ≡ i') × (j ≡ j')
       rows (yes l) q = absurd (not_before i j i' j' f f' (inl l))
       rows (no l) (yes q) = absurd (not_before i' j' i j f' f (inl q))
       rows (no l) (no q) = columns (omega arith) (dec_lt j j') (dec_lt j' j)
 
-pub first_broken_unique : (m : List ℤ) (n : ℕ) (p : List ℕ) (off : List ℤ) (claims : List ℕ) (start : ℕ) (found found' : Bool) (i j i' j' : ℕ) → Maps m n p off
-    → ((n₀ : ℕ) → Closed (at m) n₀ → Map (at m) n₀ n (var p) (ent off) → FirstBroken m n₀ n p off claims start found i j)
-    → ((n₀ : ℕ) → Closed (at m) n₀ → Map (at m) n₀ n (var p) (ent off) → FirstBroken m n₀ n p off claims start found' i' j')
-    → (found ≡ found') × (i ≡ i') × (j ≡ j')
-first_broken_unique m n p off claims start found found' i j i' j' M w w' =
-    same_answer m M.n₀ n p off claims start found found' i j i' j' (w M.n₀ M.closed M.map) (w' M.n₀ M.closed M.map)
+  same_pair : (i j i' j' : ℕ) → i ≡ i' → j ≡ j' → ◌≡◌ {A = Broken} (record { i = i; j = j }) (record { i = i'; j = j' })
+  same_pair i j i' j' p q = rw (p, q)
+
+  same_answer : (r r' : Option Broken) → FirstBroken m n₀ n p off claims start r → FirstBroken m n₀ n p off claims start r' → r ≡ r'
+  same_answer None None f f' = refl
+  same_answer None (Some w) f f' = absurd (clash w.i w.j f' f)
+  same_answer (Some w) None f f' = absurd (clash w.i w.j f f')
+  same_answer (Some w) (Some w') f f' = let e = same_place w.i w.j w'.i w'.j f f' in ap Some (same_pair w.i w.j w'.i w'.j e.0 e.1)
+
+pub first_broken_unique : (m : List ℤ) (n : ℕ) (p : List ℕ) (off : List ℤ) (claims : List ℕ) (start : ℕ) (r r' : Option Broken) → Maps m n p off
+    → ((n₀ : ℕ) → Closed (at m) n₀ → Map (at m) n₀ n (var p) (ent off) → FirstBroken m n₀ n p off claims start r)
+    → ((n₀ : ℕ) → Closed (at m) n₀ → Map (at m) n₀ n (var p) (ent off) → FirstBroken m n₀ n p off claims start r') → r ≡ r'
+first_broken_unique m n p off claims start r r' M w w' =
+    same_answer m M.n₀ n p off claims start r r' (w M.n₀ M.closed M.map) (w' M.n₀ M.closed M.map)
 
 -- ---- the accessors
 pub get_unique : (m : List ℤ) (a b : ℕ) (r r' : ℤ) → Got m a b r → Got m a b r' → r ≡ r'

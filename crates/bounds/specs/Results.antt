@@ -1,9 +1,10 @@
 -- What the operations give, said of the solutions.
 -- Assumes nothing.
-use Rattle.std.specs.Prelude.{◌≡◌, Bool, true, false, List, ℕ, ◌<◌, ◌≤◌, ℤ, pos}
+use Rattle.std.specs.Prelude.{◌≡◌, List, ℕ, ◌<◌, ◌≤◌, ℤ, pos, Option, None, Some}
 use Rattle.bounds.specs.Matrix.{ent, at, Outside, Stored, Entry, Entries, Meets, Sol, Closed}
 use Rattle.bounds.specs.Images.{var, Image}
 use Rattle.bounds.specs.Claims.{Breaks, Before}
+use Rattle.bounds.specs.declared.broken.Broken.{Broken}
 
 -- `get`: the bound on variable a minus variable b
 pub record Got (m : List ℤ) (a b : ℕ) (r : ℤ) : Type 0 where
@@ -25,10 +26,10 @@ pub record Exact (m : List ℤ) (n i j : ℕ) (c : ℤ) (r : List ℤ) : Type 0 
   pub some : (x : ℕ → ℕ) × Sol (at r) n x
   pub outside : (k : ℕ) → Outside n k → ent r k ≡ ent m k
 
--- `tighten`: no solution meets the bound, and the matrix is as it was; or the solutions that do
-pub record Tightened (m : List ℤ) (n i j : ℕ) (c : ℤ) (empty : Bool) (r : List ℤ) : Type 0 where
-  pub nothing : empty ≡ true → ((x : ℕ → ℕ) → Sol (at m) n x → Meets i j c x → ⊥) × (r ≡ m)
-  pub done : empty ≡ false → Exact m n i j c r
+-- `tighten`: no solution meets the bound; or the solutions that do
+abbrev pub Tightened : List ℤ → ℕ → ℕ → ℕ → ℤ → Option (List ℤ) → Type 0
+Tightened m n i j c None = (x : ℕ → ℕ) → Sol (at m) n x → Meets i j c x → ⊥
+Tightened m n i j c (Some r) = Exact m n i j c r
 
 -- `remap`: the solutions of r, of n variables, are the images of those of m, of n₀ variables
 pub record Remapped (m : List ℤ) (n₀ n : ℕ) (p : List ℕ) (off r : List ℤ) : Type 0 where
@@ -56,10 +57,13 @@ pub record BrokenBy (m : List ℤ) (n₀ n : ℕ) (p : List ℕ) (off : List ℤ
   pub image : Image n (var p) (ent off) x y
   pub breaks : Breaks claims start a b y
 
--- `first_broken`: (i, j) is the first claimed bound, row by row, that is broken; or none is, and i and j are 0
-pub record FirstBroken (m : List ℤ) (n₀ n : ℕ) (p : List ℕ) (off : List ℤ) (claims : List ℕ) (start : ℕ) (found : Bool) (i j : ℕ) : Type 0 where
-  pub inside : found ≡ true → (i < n) × (j < n)
-  pub here : found ≡ true → BrokenBy m n₀ n p off claims start i j
-  pub first : found ≡ true → (a b : ℕ) → a < n → b < n → Before a b i j → Met m n₀ n p off claims start a b
-  pub nowhere : found ≡ false → (a b : ℕ) → a < n → b < n → Met m n₀ n p off claims start a b
-  pub zeros : found ≡ false → (i ≡ 0) × (j ≡ 0)
+-- (i, j) is the first claimed bound, row by row, that is broken
+pub record FirstAt (m : List ℤ) (n₀ n : ℕ) (p : List ℕ) (off : List ℤ) (claims : List ℕ) (start i j : ℕ) : Type 0 where
+  pub inside : (i < n) × (j < n)
+  pub here : BrokenBy m n₀ n p off claims start i j
+  pub first : (a b : ℕ) → a < n → b < n → Before a b i j → Met m n₀ n p off claims start a b
+
+-- `first_broken`: the first claimed bound, row by row, that is broken; or none is
+abbrev pub FirstBroken : List ℤ → ℕ → ℕ → List ℕ → List ℤ → List ℕ → ℕ → Option Broken → Type 0
+FirstBroken m n₀ n p off claims start None = (a b : ℕ) → a < n → b < n → Met m n₀ n p off claims start a b
+FirstBroken m n₀ n p off claims start (Some w) = FirstAt m n₀ n p off claims start w.i w.j

@@ -17,10 +17,7 @@ fn shifted(v: i32, u: i32, w: i32) -> i32
     requires { Entry v × Size u 100000000 × Size w 100000000 }
     ensures { Shift v u w result }
 {
-    if v < NONE {
-        return v + u - w;
-    }
-    v
+    if v < NONE { v + u - w } else { v }
 }
 
 // The bound on new variable a minus new variable b, read where it stands in the old matrix.
@@ -45,14 +42,10 @@ pub fn remap(m: Matrix, n: usize, p: Sources, off: Offsets) -> Matrix
     ensures { (n₀ : ℕ) → Closed (at m) n₀ → Map (at m) n₀ n (var p) (ent off) → Remapped m n₀ n p off result }
 {
     let mut r = [0i32; 289];
-    let mut a = 0;
-    while a < n {
-        let mut b = 0;
-        while b < n {
+    for a in 0..n {
+        for b in 0..n {
             r[a * 17 + b] = reached(&m, &p, &off, a, b);
-            b += 1;
         }
-        a += 1;
     }
     r
 }

@@ -16,4 +16,4 @@ pub use broken::{BIAS, Broken, claimed, first_broken};
 pub use image::{Offsets, Sources, reached, remap};
 pub use matrix::{Matrix, NONE, get, top};
 pub use smallest::{Values, least};
-pub use tightening::{Tight, tighten};
+pub use tightening::tighten;

@@ -22,13 +22,7 @@ pub fn get(m: &Matrix, a: usize, b: usize) -> i32
 fn top_entry(a: usize, b: usize) -> i32
     ensures { Unknown a b result }
 {
-    if a == 0 {
-        return 0;
-    }
-    if a == b {
-        return 0;
-    }
-    NONE
+    if a == 0 || a == b { 0 } else { NONE }
 }
 
 // The matrix of which nothing is known but that every variable is at least 0.
@@ -36,10 +30,8 @@ pub fn top() -> Matrix
     ensures { Widest result }
 {
     let mut r = [0i32; 289];
-    let mut k = 0;
-    while k < 289 {
-        r[k] = top_entry(k / 17, k % 17);
-        k += 1;
+    for (k, entry) in r.iter_mut().enumerate() {
+        *entry = top_entry(k / 17, k % 17);
     }
     r
 }

@@ -2,27 +2,23 @@
 -- Assumes nothing.
 use Prim.Native.Nat.{ℕ, zero, suc, ◌+◌, ◌*◌, ◌/◌, ◌-◌, ◌≤◌, ◌<◌, min}
 use mathlib.Core.Path.{◌≡◌, refl, sym, ap, ◌∙◌}
-use mathlib.Core.Bool.{true, false}
 use mathlib.Core.List.{List, [], ◌∷◌, ◌++◌, append_assoc}
-use mathlib.Core.Option.{none}
 use native.Mathlib.Omega.{arith}
 use native.Mathlib.Numerals.{add-one}
-use lib.ListN.{length, get_or, set, take, length-append}
-use lib.Seq.{sets, take-suc, take_all, sets-eq, take_at, length-take-le}
+use lib.ListN.{length, get_or, take, drop, length-append}
+use lib.Seq.{sets, take-suc, take_all, sets-eq, take_at}
 use Rattle.meaning.specs.Text.Numerals.{dec_f}
 use Rattle.meaning.specs.Text.Records.{done}
 use Rattle.meaning.proofs.Text.Choices.{by_lt}
-use Rattle.meaning.proofs.Text.WriteLaws.{sets_append, dec_f_none, dec_f_last, length_then}
+use Rattle.meaning.proofs.Text.WriteLaws.{dec_f_none, dec_f_last, length_then}
+use Rattle.std.specs.Prelude.{Ok, Err}
+use Rattle.refusals.specs.declared.Reason.TheVariants.{WrongRoom}
 use Rattle.lines.specs.Put.{Put}
 use Rattle.lines.proofs.Laws.Putting.{put_then}
 use Rattle.machine.specs.declared.Job.{Job}
-use Rattle.verdict.specs.Answers.{fault_of}
-use Rattle.verdict.specs.declared.answer.Fault.{Fault}
-use Rattle.verdict.specs.declared.answer.Fault.TheVariants.{Nothing, Late, Over, Unclaimed, Elsewhere, Breaks}
-use Rattle.console.specs.Line.{spaced, job_numbers, kind_by, judged_line, ok_line, failed_line, refused_line, is_refused, line_of}
+use Rattle.console.specs.Line.{spaced, job_numbers, line_of}
 use Rattle.console.specs.Wrote.{WroteLine}
 use Rattle.console.specs.declared.told.Told.{Told}
-use Rattle.console.specs.declared.printed.Written.TheVariants.{Done, Refused}
 
 -- ---- how long
 
@@ -81,13 +77,6 @@ module _ {A : Type 0} (l : List A) where
 -- ---- the copy
 
 module _ (b xs : List ℕ) where
-  pub copy_more : (b' : List ℕ) (k : ℕ) → k < length xs → b' ≡ sets b 0 (take k xs) → set b' k (get_or xs k 0) ≡ sets b 0 (take (k + 1) xs)
-  copy_more b' k h e =
-      let m : length (take k xs) ≡ k = length-take-le k xs (omega arith) in
-      let n : 0 + length (take k xs) ≡ k = omega arith in
-      sym (ap (λ (z : List ℕ). sets b 0 z) (take_more xs k 0 h) ∙ sets_append b 0 (take k xs) (get_or xs k 0 ∷ [])
-      ∙ ap (λ (z : ℕ). sets (sets b 0 (take k xs)) z (get_or xs k 0 ∷ [])) n ∙ ap (λ (z : List ℕ). set z k (get_or xs k 0)) (sym e))
-
   -- what was written at the beginning stands there
   pub written_front : length xs ≤ length b → take (length xs) (sets b 0 xs) ≡ xs
   written_front h = ap (take (length xs)) (sets-eq xs b 0 (omega arith)) ∙ take_at xs _ (length xs) refl
@@ -111,74 +100,37 @@ take_stop l k n e =
     (λ h. let z : k ≡ length l = omega (arith, e) in take_over l k n (omega arith) (omega arith))
 
 module _ (b : List ℕ) (at : ℕ) (l : List ℕ) (k : ℕ) (b₁ : List ℕ) (p : ℕ) (w : Put b at (spaced (take k l)) b₁ p) where
-  pub clock_room : p ≤ at + 21 * k
-  clock_room = omega (arith, fields_end b at (take k l) b₁ p w, take_short k l)
-
-  pub put_clock : (b₂ : List ℕ) (r : ℕ) → k < length l → Put b₁ p (spaced (get_or l k 0 ∷ [])) b₂ r → Put b at (spaced (take (k + 1) l)) b₂ r
-  put_clock b₂ r h v = rw (take_more l k 0 h) (put_fields b at (take k l) (get_or l k 0 ∷ []) b₁ b₂ p r w v)
-
-  pub put_clocks : (n : ℕ) → k ≡ min n (length l) → Put b at (spaced (take n l)) b₁ p
-  put_clocks n h = rw (take_stop l k n h) w
+  -- one number more
+  pub put_number : (b₂ : List ℕ) (r : ℕ) → k < length l → Put b₁ p (spaced (get_or l k 0 ∷ [])) b₂ r
+      → record { put : Put b at (spaced (take (k + 1) l)) b₂ r; near : r ≤ at + 21 * (k + 1) }
+  put_number b₂ r h v =
+      let more : Put b at (spaced (take (k + 1) l)) b₂ r = rw (take_more l k 0 h) (put_fields b at (take k l) (get_or l k 0 ∷ []) b₁ b₂ p r w v) in
+      record { put = more; near = omega (arith, fields_end b at (take (k + 1) l) b₂ r more, take_short (k + 1) l) }
 
 module _ (b : List ℕ) (at : ℕ) (l : List Job) (k : ℕ) (b₁ : List ℕ) (p : ℕ) (w : Put b at (spaced (job_numbers (take k l))) b₁ p) where
-  pub job_room : p ≤ at + 63 * k
-  job_room = omega (arith, fields_end b at (job_numbers (take k l)) b₁ p w, job_fields (take k l), take_short k l)
-
+  -- one job more
   pub put_job : (d : Job) (b₂ : List ℕ) (r : ℕ) → k < length l → Put b₁ p (spaced (job_numbers (get_or l k d ∷ []))) b₂ r
-      → Put b at (spaced (job_numbers (take (k + 1) l))) b₂ r
+      → record { put : Put b at (spaced (job_numbers (take (k + 1) l))) b₂ r; near : r ≤ at + 63 * (k + 1) }
   put_job d b₂ r h v =
+      let more : Put b at (spaced (job_numbers (take (k + 1) l))) b₂ r =
       rw (take_more l k d h, job_numbers_append (take k l) (get_or l k d ∷ []))
-      (put_fields b at (job_numbers (take k l)) (job_numbers (get_or l k d ∷ [])) b₁ b₂ p r w v)
-
-  pub put_jobs : (n : ℕ) → k ≡ min n (length l) → Put b at (spaced (job_numbers (take n l))) b₁ p
-  put_jobs n h = rw (take_stop l k n h) w
-
--- ---- the line, by its cases
-
-kind_none : (f : Fault) → kind_by f ≡ 0 → fault_of f ≡ none
-kind_none Nothing e = refl
-kind_none (Late k) e = absurd (let z : ◌≡◌ {A = ℕ} 1 0 = e in omega (arith, z))
-kind_none Over e = absurd (let z : ◌≡◌ {A = ℕ} 2 0 = e in omega (arith, z))
-kind_none Unclaimed e = absurd (let z : ◌≡◌ {A = ℕ} 3 0 = e in omega (arith, z))
-kind_none Elsewhere e = absurd (let z : ◌≡◌ {A = ℕ} 4 0 = e in omega (arith, z))
-kind_none (Breaks i j) e = absurd (let z : ◌≡◌ {A = ℕ} 5 0 = e in omega (arith, z))
-
-kind_some : (x : Told) (f : Fault) → (kind_by f ≡ 0 → ⊥) → judged_line x (fault_of f) ≡ failed_line x (kind_by f)
-kind_some x Nothing n = absurd (n refl)
-kind_some x (Late k) n = refl
-kind_some x Over n = refl
-kind_some x Unclaimed n = refl
-kind_some x Elsewhere n = refl
-kind_some x (Breaks i j) n = refl
-
-module _ (x : Told) where
-  pub line_refused : is_refused x ≡ true → line_of x ≡ refused_line x
-  line_refused e = rw e
-
-  pub short_refused : length (refused_line x) ≤ 65
-  short_refused = omega (arith, spaced_short (x.text ∷ x.answer.refusal ∷ x.at ∷ []))
-
-  pub line_ok : is_refused x ≡ false → kind_by x.answer.fault ≡ 0 → line_of x ≡ ok_line x.answer.number
-  line_ok e k = rw (e, kind_none x.answer.fault k)
-
-  pub line_failed : is_refused x ≡ false → (kind_by x.answer.fault ≡ 0 → ⊥) → line_of x ≡ failed_line x (kind_by x.answer.fault)
-  line_failed e k = rw e (kind_some x x.answer.fault k)
-
-pub short_ok : (n : ℕ) → length (ok_line n) ≤ 23
-short_ok n = omega (arith, spaced_short (n ∷ []))
+      (put_fields b at (job_numbers (take k l)) (job_numbers (get_or l k d ∷ [])) b₁ b₂ p r w v) in
+      record { put = more; near = omega (arith, fields_end b at (job_numbers (take (k + 1) l)) b₂ r more, job_fields (take (k + 1) l), take_short (k + 1) l) }
 
 -- ---- the answer and the lent buffer
 
 module _ (x : Told) (b : List ℕ) (n : ℕ) where
-  pub wrote_short : n ≡ 0 + length (line_of x) → length b < n → WroteLine x b (Refused 11 0) b
+  pub wrote_short : n ≡ 0 + length (line_of x) → length b < n → WroteLine x b (Err (record { reason = WrongRoom; place = 0 })) b
   wrote_short e h = record { short = λ l. (refl, refl); text = λ l. absurd (omega (arith, e)) }
 
-  pub wrote_line : (b' room room' : List ℕ) → length (line_of x) ≤ length room → Put room 0 (line_of x) room' n → n ≤ length b
-      → b' ≡ sets b 0 (take n room') → WroteLine x b (Done n) b'
-  wrote_line b' room room' f p h e =
+  pub wrote_line : (room room' xs b' : List ℕ) → length (line_of x) ≤ length room → Put room 0 (line_of x) room' n → n ≤ length b
+      → xs ≡ take n room' → b' ≡ xs ++ drop n b → WroteLine x b (Ok n) b'
+  wrote_line room room' xs b' f p h e g =
       let z : n ≡ length (line_of x) = omega (arith, p.next) in
-      let t : take n room' ≡ line_of x = ap (λ (k : ℕ). take k room') z ∙ ap (take (length (line_of x))) p.text ∙ written_front room (line_of x) f in
+      let t : xs ≡ line_of x = e ∙ ap (λ (k : ℕ). take k room') z ∙ ap (take (length (line_of x))) p.text ∙ written_front room (line_of x) f in
+      let same : xs ++ drop n b ≡ sets b 0 (line_of x) =
+      rw (t, sets-eq (line_of x) b 0 (omega arith)) (ap (λ (k : ℕ). line_of x ++ drop k b) p.next) in
       record {
         short = λ l. absurd (omega arith);
-        text = λ l. (ap done z, e ∙ ap (sets b 0) t);
+        text = λ l. (ap done z, g ∙ same);
       }

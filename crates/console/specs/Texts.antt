@@ -8,24 +8,22 @@ use Rattle.meaning.specs.Text.ModelTable.{size, decode, clocks}
 use Rattle.meaning.specs.Text.ModelReader.{read_model}
 use Rattle.meaning.specs.Text.ProposalTable as proposal
 use Rattle.meaning.specs.Text.ProposalReader.{read_proposal}
-use Rattle.machine.specs.Promise.{no_state}
+use Rattle.verdict.specs.declared.answer.Verdict.{Verdict}
 use Rattle.verdict.specs.Answers.{Says}
-use Rattle.verdict.specs.declared.answer.Fault.TheVariants.{Nothing}
 use Rattle.console.specs.declared.told.Told.{Told}
+use Rattle.console.specs.declared.told.Told.TheVariants.{Refused, Judged}
 
--- "`RF`, 1 model or 2 proposal, refusal number, place": the text's number, the refusal and its place, and 0 in every other field
+-- "`RF`, 1 model or 2 proposal, refusal number, place": the text's number, the refusal and its place
 abbrev pub refused_text : ℕ → ℕ → ℕ → Told
-refused_text text k p =
-    record { text = text; at = p; clocks = 0; answer = record { refusal = k; number = 0; zone = 0; place = 0; fault = Nothing; state = no_state } }
+refused_text text k p = Refused text k p
 
 -- both texts are read, into the tables t and u: r says the right answer of the model and the proposal in them, and how many clocks there are
 pub record TellsAnswer (t u : List ℕ) (r : Told) : Type 0 where
-  pub text : r.text ≡ 0
-  pub at : r.at ≡ 0
-  pub clocks : r.clocks ≡ clocks t
+  pub verdict : Verdict
+  pub is : r ≡ Judged (clocks t) verdict
   pub answer : A.Answer
   pub right : A.Right (decode t) (proposal.decode u) answer
-  pub says : Says answer r.answer
+  pub says : Says answer verdict
 
 -- by the answer of the proposal's reader, over the model in the table t
 abbrev pub TellsProposal : List ℕ → Answer (List ℕ) → Told → Type 0

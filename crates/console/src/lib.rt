@@ -2,8 +2,7 @@
 // Assumes nothing.
 #![tactic(auto)]
 
-mod digits; // digits.rt: numbers, each after one space, written
-mod fields; // fields.rt: the clocks and the jobs of a state, written
+mod fields; // fields.rt: numbers, and the clocks and the jobs of a state, written
 mod room; // room.rt: the printed line, written into a room that it fits
 mod tables; // tables.rt: the full sizes of the two tables
 mod printed; // printed.rt: the printed line, into a lent buffer
@@ -12,6 +11,6 @@ mod texts; // texts.rt: the check of two texts
 mod told; // told.rt: what the console says of two texts
 
 pub use part::fault_part;
-pub use printed::{Written, line};
+pub use printed::line;
 pub use texts::check_texts;
 pub use told::Told;

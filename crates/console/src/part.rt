@@ -1,6 +1,6 @@
 // The part of the texts in which a fault stands.
 // Assumes nothing.
-ghost use Rattle.std.specs.Prelude.{◌≡◌, ◌+◌, ◌≤◌, length, drop, true};
+ghost use Rattle.std.specs.Prelude.{◌≡◌, ◌==◌, ◌+◌, ◌≤◌, length, drop, position, true};
 ghost use Rattle.meaning.specs.Text.ModelReader.{Given};
 ghost use Rattle.meaning.specs.Text.ModelTable.{decode};
 ghost use Rattle.meaning.specs.Text.ProposalTable.{size};
@@ -9,20 +9,22 @@ ghost use Rattle.console.specs.Part.{line_length, part_at, proposal_part, part_o
 
 use crate::tables;
 
+// The first line feed.
+fn first_feed(text: &[u8]) -> Option<usize>
+    ensures { result ≡ position (λ b. b == 10) text.now }
+{
+    text.iter().position(|b| *b == b'\n')
+}
+
 // The next line feed from a place on, or the end.
 fn line_end(text: &[u8], at: usize) -> usize
     requires { at ≤ length text.now }
     ensures { result ≡ at + line_length (drop at text.now) }
 {
-    let mut k = at;
-    while k < text.len() {
-        let next = k + 1;
-        if text[k] == 10 {
-            return k;
-        }
-        k = next;
+    match first_feed(&text[at..]) {
+        Some(k) => at + k,
+        None => text.len(),
     }
-    k
 }
 
 // From a place to before the next line feed, or the end.
@@ -41,11 +43,8 @@ fn proposal_part<'a>(table: &[u32], text: &'a [u8]) -> &'a [u8]
 {
     let mut zones = [0; tables::PROPOSAL];
     match zone_text::read_proposal(table, text, &mut zones) {
-        zone_text::Read::Refused(_, at) => part_from(text, at),
-        zone_text::Read::Done => {
-            let end = text.len();
-            &text[end..end]
-        }
+        Err(refusal) => part_from(text, refusal.place),
+        Ok(()) => &text[text.len()..],
     }
 }
 
@@ -56,7 +55,7 @@ pub fn fault_part<'a>(model: &'a [u8], proposal: &'a [u8]) -> &'a [u8]
 {
     let mut table = [0; tables::MODEL];
     match model_text::read_model(model, &mut table) {
-        model_text::Read::Refused(_, at) => part_from(model, at),
-        model_text::Read::Done => proposal_part(&table, proposal),
+        Err(refusal) => part_from(model, refusal.place),
+        Ok(()) => proposal_part(&table, proposal),
     }
 }

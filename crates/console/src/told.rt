@@ -1,12 +1,18 @@
 // What the console says.
-use verdict::Answer;
+use verdict::Verdict;
 
-// What the console says of two texts: which text is refused, 1 the model's or 2 the proposal's, and the place of the fault; how many clocks the
-// model has; and the answer of the check, whose refusal is that of the text where one is refused. What says nothing is 0.
+// What the console says of two texts: which text is refused, 1 the model's or 2 the proposal's, with the
+// refusal's number and its place; or, of a model with so many clocks, the verdict. Text and refusal are
+// numbers, since `line` prints whichever it is handed, and no caller is asked for fewer.
 #[derive(Clone, Copy)]
-pub struct Told {
-    pub text: u32,
-    pub at: usize,
-    pub clocks: u32,
-    pub answer: Answer,
+pub enum Told {
+    Refused {
+        text: u32,
+        number: u32,
+        place: usize,
+    },
+    Judged {
+        clocks: u32,
+        verdict: Verdict,
+    },
 }

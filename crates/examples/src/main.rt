@@ -4,81 +4,26 @@
 
 ghost use Rattle.io.specs.Counts.{IsPrefixLen};
 
-use console::Written;
-use std::io::Read;
+use files::{print_line, read_file};
 use std::rt::{Env, Files};
-use std::{fs, io, str};
+use std::{io, str};
 
-// The file's bytes into the room until it ends, a read fails or the room is full, and how many.
-fn read_full<R: Read>(file: &mut R, room: &mut [u8]) -> usize
+// The bytes of a file into the room, and how many; none where its name is no text.
+fn read_named<R: Files>(rt: &R, name: &[u8], room: &mut [u8]) -> usize
     ensures { IsPrefixLen result room.new }
 {
-    let mut n = 0;
-    while n < room.len() {
-        match file.read(&mut room[n..]) {
-            Ok(more) => {
-                if more == 0 {
-                    return n;
-                }
-                n += more;
-            }
-            Err(_) => {
-                return n;
-            }
-        }
+    match str::from_utf8(name) {
+        Ok(path) => read_file(rt, path, room),
+        Err(_) => 0,
     }
-    n
-}
-
-// Whether the file has no more bytes: a read that fails says no.
-fn ends<R: Read>(file: &mut R) -> bool {
-    let mut more = [0u8; 1];
-    match file.read(&mut more) {
-        Ok(n) => n == 0,
-        Err(_) => false,
-    }
-}
-
-// The file's bytes into the room, and how many. The room has one byte more than a text may have, so a longer file is seen as longer. A file
-// that can't be read to its end counts as empty, and so does one whose name is no text.
-fn read_file<R: Files>(rt: &R, name: &[u8], room: &mut [u8]) -> usize
-    ensures { IsPrefixLen result room.new }
-{
-    if let Ok(path) = str::from_utf8(name) {
-        if let Ok(mut file) = fs::open(rt, path) {
-            let n = read_full(&mut file, room);
-            let whole = n == room.len() || ends(&mut file);
-            return if whole { n } else { 0 };
-        }
-    }
-    0
-}
-
-// The first n bytes and a line feed.
-fn print_front(rt: &impl Print, bytes: &[u8], n: usize) -> io::Result<()> {
-    if n <= bytes.len() {
-        rt.write_all(&bytes[..n])?;
-        rt.write_all(b"\n")?;
-    }
-    Ok(())
-}
-
-// The line of the two texts. No line is longer than the buffer.
-fn print_line(rt: &impl Print, model: &[u8], zones: &[u8]) -> io::Result<()> {
-    let mut buffer = [0u8; 569];
-    let told = console::check_texts(model, zones);
-    if let Written::Done(n) = console::line(told, &mut buffer) {
-        print_front(rt, &buffer, n)?;
-    }
-    Ok(())
 }
 
 // The two files' line, behind the name of the zones' file.
 fn run<R: Files + Print>(rt: &R, model_name: &[u8], zones_name: &[u8]) -> io::Result<()> {
     let mut model = [0u8; 65536];
     let mut zones = [0u8; 65536];
-    let n = read_file(rt, model_name, &mut model);
-    let k = read_file(rt, zones_name, &mut zones);
+    let n = read_named(rt, model_name, &mut model);
+    let k = read_named(rt, zones_name, &mut zones);
     rt.write_all(zones_name)?;
     rt.write_all(b": ")?;
     print_line(rt, &model[..n], &zones[..k])
@@ -105,9 +50,10 @@ fn run_at<R: Env + Files + Print>(rt: &R, i: usize, next: usize) -> io::Result<b
 }
 
 fn main(rt: HostRuntime) -> io::Result<()> {
-    let mut i: usize = 1;
-    while i < 99 && run_at(&rt, i, i + 1)? {
-        i += 2;
+    for i in (1..99).step_by(2) {
+        if !run_at(&rt, i, i + 1)? {
+            break;
+        }
     }
     Ok(())
 }

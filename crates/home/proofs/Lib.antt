@@ -1,6 +1,6 @@
 pub mod Walks
 pub mod EdgeLaws
 pub mod QueueLaws
-pub mod OrderLaws
+pub mod RowLaws
 pub mod WholeLaws
 pub mod HomeLaws

@@ -1,32 +1,22 @@
 -- Laws of a location with a queue order as it is lent, and of two that are one.
 -- Assumes nothing.
-use Prim.Native.Nat.{ℕ, zero, suc, ◌+◌, ◌-◌, ◌≤◌, ◌<◌}
-use mathlib.Core.Path.{◌≡◌, refl, sym, ◌∙◌, ap, ap₂}
-use mathlib.Core.Bool.{Bool, true, false, ◌&&◌}
+use Prim.Native.Nat.{ℕ, zero, suc, ◌+◌, ◌-◌, ◌≤◌}
+use mathlib.Core.Path.{◌≡◌, refl, sym, ◌∙◌, ap}
+use mathlib.Core.Bool.{Bool, true, ◌&&◌}
 use mathlib.Core.Logic.{◌↔◌}
-use mathlib.Core.List.{List, [], ◌∷◌, ◌++◌}
+use mathlib.Core.List.{List, [], ◌∷◌}
 use native.Mathlib.Omega.{arith}
-use native.Mathlib.Numerals.{add-one}
 use lib.Dec.{ltb, leb, eqb}
 use lib.ListN.{length, get_or, take, drop}
-use lib.Seq.{take-suc, get_or-take, get_or-drop, length-take-le}
-use borrow.Author.Tests.{eqb-true, eq-eqb, leb-true, le-leb, ltb-true, lt-ltb, le-ltb}
+use lib.Seq.{get_or-drop}
+use borrow.Author.Tests.{eqb-true, eq-eqb, leb-true, le-leb, ltb-true, lt-ltb}
 use Rattle.meaning.specs.Model.{Model}
-use Rattle.meaning.specs.Zones.Reached as Z
 use Rattle.meaning.specs.Zones.Proper.{fits}
 use Rattle.meaning.specs.Text.RightModel.{Each}
 use Rattle.meaning.proofs.Tests.{and_left, and_right, and_both}
-use Rattle.home.specs.declared.Home.{Home}
-use Rattle.home.specs.Stands.{order_of, home_of, RightHome}
 use Rattle.home.specs.ByCell.{is_of, all_of, all_zero, RightCells}
 
 -- ---- the tasks of the model
-
-pub of_none : (n t : ℕ) → t ≡ 0 → false ≡ is_of n t
-of_none n t e = sym (ap (λ (b : Bool). b && leb t n) (le-ltb 0 t (omega arith)))
-
-pub of_some : (n t : ℕ) → (t ≡ 0 → ⊥) → leb t n ≡ is_of n t
-of_some n t e = sym (ap (λ (b : Bool). b && leb t n) (lt-ltb 0 t (omega arith)))
 
 tasks_read : (n : ℕ) (o : List ℕ) → all_of n o ≡ true → Each (λ (t : ℕ). (1 ≤ t) × (t ≤ n)) o
 tasks_read n [] e = tt
@@ -63,51 +53,15 @@ unused_make ts n h = zeros_make (drop n ts) (λ i. get_or-drop n ts i 0 ∙ h (n
 -- ---- the cells of a queue
 
 module _ (m : Model) (ts : List ℕ) (n : ℕ) where
-  pub cells_tasks : RightCells m ts n → all_of (length m.tasks) (take n ts) ≡ true
-  cells_tasks r = tasks_make (length m.tasks) (take n ts) r.tasks
-
-  pub cells_unused : RightCells m ts n → all_zero (drop n ts) ≡ true
-  cells_unused r = unused_make ts n r.unused
-
-  pub cells_make : all_of (length m.tasks) (take n ts) ≡ true → fits m (take n ts) ≡ true → all_zero (drop n ts) ≡ true → RightCells m ts n
-  cells_make a f z = record { tasks = tasks_read (length m.tasks) (take n ts) a; fit = f; unused = unused_read ts n z }
-
--- ---- the whole
-
-module _ (m : Model) (h : Home) where
-  pub home_cells : RightHome m h → RightCells m h.tasks h.count
-  home_cells r = record { tasks = r.order.tasks; fit = r.order.fit; unused = r.unused }
-
-  pub home_make : 1 ≤ h.location → h.location ≤ length m.locations → h.count ≤ 6 → length h.tasks ≡ 6 → RightCells m h.tasks h.count → RightHome m h
-  home_make a b c e r =
-      let d = length-take-le h.count h.tasks (omega arith) in
-      record {
-        few = c;
-        order = record { low = a; high = b; few = omega arith; tasks = r.tasks; fit = r.fit };
-        unused = r.unused;
-      }
-
--- ---- two that are one
-
-module _ (a b : List ℕ) where
-  pub same_more : (k : ℕ) → k < length a → k < length b → get_or a k 0 ≡ get_or b k 0 → take k a ≡ take k b → take (k + 1) a ≡ take (k + 1) b
-  same_more k h g e w =
-      ap (λ (i : ℕ). take i a) (add-one k) ∙ take-suc a k 0 h ∙ ap₂ (λ (l : List ℕ) (x : ℕ). l ++ (x ∷ [])) w e ∙ sym (take-suc b k 0 g)
-      ∙ sym (ap (λ (i : ℕ). take i b) (add-one k))
-
-  pub same_not : (n k : ℕ) → k < n → (get_or a k 0 ≡ get_or b k 0 → ⊥) → take n a ≡ take n b → ⊥
-  same_not n k h q e = q (sym (get_or-take n a k 0 h) ∙ ap (λ (l : List ℕ). get_or l k 0) e ∙ get_or-take n b k 0 h)
-
-module _ (a b : Home) where
-  pub other_location : (a.location ≡ b.location → ⊥) → home_of a ≡ home_of b → ⊥
-  other_location f e = f (ap (λ (h : Z.Home). h.location) e)
-
-  pub other_count : a.count ≤ 6 → b.count ≤ 6 → length a.tasks ≡ 6 → length b.tasks ≡ 6 → (a.count ≡ b.count → ⊥) → home_of a ≡ home_of b → ⊥
-  other_count p q l k f e =
-      f (sym (length-take-le a.count a.tasks (omega arith)) ∙ ap (λ (h : Z.Home). length h.order) e ∙ length-take-le b.count b.tasks (omega arith))
-
-  pub one_home : {r : Bool} → a.location ≡ b.location → a.count ≡ b.count → (r ≡ true) ↔ (take a.count a.tasks ≡ take a.count b.tasks)
-      → (r ≡ true) ↔ (home_of a ≡ home_of b)
-  one_home l n w =
-      let s : take a.count b.tasks ≡ order_of b = ap (λ (k : ℕ). take k b.tasks) n in
-      (λ e. ap₂ (λ (x : ℕ) (o : List ℕ). record { location = x; order = o }) l (w.0 e ∙ s), λ e. w.1 (ap (λ (h : Z.Home). h.order) e ∙ sym s))
+  -- what the three tests say together
+  pub cells_told : {both zero : Bool} → both ≡ (all_of (length m.tasks) (take n ts) && fits m (take n ts)) → zero ≡ all_zero (drop n ts) → (both && zero ≡ true) ↔ RightCells m ts n
+  cells_told {both} {zero} e z =
+      let a = all_of (length m.tasks) (take n ts) in
+      let f = fits m (take n ts) in (
+        λ q. let h = sym e ∙ and_left both zero q in record {
+          tasks = tasks_read (length m.tasks) (take n ts) (and_left a f h);
+          fit = and_right a f h;
+          unused = unused_read ts n (sym z ∙ and_right both zero q);
+        },
+        λ r. and_both both zero (e ∙ and_both a f (tasks_make (length m.tasks) (take n ts) r.tasks) r.fit) (z ∙ unused_make ts n r.unused),
+      )

@@ -1,8 +1,9 @@
 -- What the inner functions say of single numbers: for their contracts, not for a reader to believe.
 -- Assumes nothing.
 use Rattle.std.specs.Prelude.{◌≡◌, Bool, true, false, ◌&&◌, List, ℕ, ◌≤◌, ltb, leb, eqb, length, get_or, take}
+use Rattle.std.specs.List.{list_all}
 use Rattle.std.proofs.Math.Option.{none, some}
-use Rattle.meaning.specs.Lists.{nth1, every}
+use Rattle.meaning.specs.Lists.{nth1}
 use Rattle.meaning.specs.Model.{Model}
 use Rattle.meaning.specs.Zones.Proper.{fits}
 use Rattle.meaning.specs.Text.ModelTable.{decode}
@@ -20,11 +21,11 @@ is_of n t = ltb 0 t && leb t n
 
 -- each is
 abbrev pub all_of : ℕ → List ℕ → Bool
-all_of n o = every (is_of n) o
+all_of n o = list_all (is_of n) o
 
 -- nothing but 0
 abbrev pub all_zero : List ℕ → Bool
-all_zero l = every (λ (x : ℕ). eqb x 0) l
+all_zero l = list_all (λ (x : ℕ). eqb x 0) l
 
 -- the first n cells are the tasks of a queue that may be lent, whatever the location
 pub record RightCells (m : Model) (ts : List ℕ) (n : ℕ) : Type 0 where

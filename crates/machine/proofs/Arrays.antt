@@ -1,12 +1,15 @@
 -- Laws of arrays that hold a list: cell by cell, and filled from the first cell on.
 -- Assumes nothing.
-use Prim.Native.Nat.{ℕ, zero, suc, ◌+◌, ◌≤◌, ◌<◌}
-use mathlib.Core.Path.{◌≡◌, refl, sym, ◌∙◌, ap, subst}
-use mathlib.Core.List.{List, [], ◌∷◌, map}
+use Prim.Native.Nat.{ℕ, zero, suc, ◌+◌, ◌-◌, ◌≤◌, ◌<◌}
+use mathlib.Core.Path.{◌≡◌, refl, sym, ◌∙◌, ap, ap₂}
+use mathlib.Core.Bool.{Bool, true}
+use mathlib.Core.List.{List, [], ◌∷◌, ◌++◌, map}
 use native.Mathlib.Omega.{arith}
-use native.Mathlib.Decide.{ℕ_discrete}
-use lib.ListN.{length, get_or, take, set, length-set}
-use lib.Seq.{ext_get_or, get_or-set_same, get_or-set_other}
+use lib.ListN.{length, get_or, take, drop, set, replicate, length-map}
+use lib.Seq.{ext_get_or, length-take-le}
+use Rattle.std.proofs.lemmas.List.{get_or-map, map_more}
+use Rattle.std.specs.List.{list_all}
+use Rattle.meaning.proofs.Tests.{and_left, and_right}
 use Rattle.machine.specs.Stands.{padded}
 
 module _ {A : Type 0} where
@@ -15,17 +18,6 @@ module _ {A : Type 0} where
   take_out (suc n) [] k d h = refl
   take_out (suc n) (x ∷ l) zero d h = absurd (omega arith)
   take_out (suc n) (x ∷ l) (suc k) d h = take_out n l k d (omega arith)
-
-module _ {A B : Type 0} (f : A → B) (d : A) (e : B) where
-  pub map_at : (l : List A) (k : ℕ) → k < length l → get_or (map f l) k e ≡ f (get_or l k d)
-  map_at [] k h = absurd (omega arith)
-  map_at (x ∷ l) zero h = refl
-  map_at (x ∷ l) (suc k) h = map_at l k (omega arith)
-
-  pub map_out : (l : List A) (k : ℕ) → length l ≤ k → get_or (map f l) k e ≡ e
-  map_out [] k h = refl
-  map_out (x ∷ l) zero h = absurd (omega arith)
-  map_out (x ∷ l) (suc k) h = map_out l k (omega arith)
 
 module _ {A : Type 0} (d : A) where
   pub padded_length : (n : ℕ) (l : List A) → length (padded d n l) ≡ n
@@ -54,23 +46,44 @@ module _ {A : Type 0} (d : A) where
       ext_get_or d a (padded d n l) (e ∙ sym (padded_length n l))
       (λ k b. let g : k < n = omega arith in h k g ∙ sym (padded_at n l k g))
 
-  -- an array of n cells is filled up to k: cell i has f i
-  pub record Filled (n : ℕ) (f : ℕ → A) (r : List A) (k : ℕ) : Type 0 where
-    pub long : length r ≡ n
-    pub upto : k ≤ n
-    pub cells : (i : ℕ) → i < k → get_or r i d ≡ f i
+  -- cells that are d from place n on
+  pub padded_rest : (f : A → Bool) → ((x : A) → f x ≡ true → x ≡ d) → (n : ℕ) (l : List A) → list_all f (drop n l) ≡ true → l ≡ padded d (length l) (take n l)
+  padded_rest f h zero [] e = refl
+  padded_rest f h zero (x ∷ l) e =
+      ap₂ (λ (y : A) (r : List A). y ∷ r) (h x (and_left (f x) (list_all f l) e)) (padded_rest f h zero l (and_right (f x) (list_all f l) e))
+  padded_rest f h (suc n) [] e = refl
+  padded_rest f h (suc n) (x ∷ l) e = ap (λ (r : List A). x ∷ r) (padded_rest f h n l e)
 
-  pub filled_start : (n : ℕ) (f : ℕ → A) (r : List A) → length r ≡ n → Filled n f r 0
-  filled_start n f r e = record { long = e; upto = omega arith; cells = λ i h. absurd (omega arith) }
+  -- the next unused cell is filled
+  pub padded_put : (n : ℕ) (l : List A) (x : A) → length l < n → set (padded d n l) (length l) x ≡ padded d n (l ++ x ∷ [])
+  padded_put zero l x h = absurd (omega arith)
+  padded_put (suc n) [] x h = refl
+  padded_put (suc n) (y ∷ l) x h = ap (λ (r : List A). y ∷ r) (padded_put n l x (omega arith))
 
-  pub filled_more : (n : ℕ) (f : ℕ → A) (r : List A) (k : ℕ) (x : A) → Filled n f r k → k < n → x ≡ f k → Filled n f (set r k x) (k + 1)
-  filled_more n f r k x w h e = record { long = length-set r k x ∙ w.long; upto = omega arith; cells = λ i b. go i b (ℕ_discrete i k) }
-    where
-      go : (i : ℕ) → i < k + 1 → Dec (i ≡ k) → get_or (set r k x) i d ≡ f i
-      go i b (yes q) =
-          let l = w.long in
-          subst (λ (j : ℕ). get_or (set r k x) j d ≡ f j) (sym q) (get_or-set_same r k x d (omega arith) ∙ e)
-      go i b (no q) = get_or-set_other r k i x d q ∙ w.cells i (omega arith)
+  pub padded_snoc : (n : ℕ) (l : List A) → length l ≤ n → padded d n l ++ d ∷ [] ≡ padded d (suc n) l
+  padded_snoc zero [] h = refl
+  padded_snoc zero (x ∷ l) h = absurd (omega arith)
+  padded_snoc (suc n) [] h = ap (λ (r : List A). d ∷ r) (padded_snoc n [] (omega arith))
+  padded_snoc (suc n) (x ∷ l) h = ap (λ (r : List A). x ∷ r) (padded_snoc n l (omega arith))
 
-  pub filled_end : (n : ℕ) (f : ℕ → A) (r : List A) (k : ℕ) (l : List A) → Filled n f r k → n ≤ k → ((i : ℕ) → i < n → f i ≡ get_or l i d) → r ≡ padded d n l
-  filled_end n f r k l w h e = padded_is n r l w.long (λ i b. w.cells i (omega arith) ∙ e i b)
+  pub padded_rep : (n : ℕ) (l : List A) → length l ≤ n → padded d n l ≡ l ++ replicate (n - length l) d
+  padded_rep zero [] h = refl
+  padded_rep zero (x ∷ l) h = absurd (omega arith)
+  padded_rep (suc n) [] h = let z : suc (n - 0) ≡ suc n - 0 = omega arith in ap (λ (r : List A). d ∷ r) (padded_rep n [] (omega arith)) ∙ ap (λ (k : ℕ). replicate k d) z
+  padded_rep (suc n) (x ∷ l) h =
+      let z : n - length l ≡ suc n - suc (length l) = omega arith in
+      ap (λ (r : List A). x ∷ r) (padded_rep n l (omega arith) ∙ ap (λ (k : ℕ). l ++ replicate k d) z)
+
+-- cells that have f of what stands in a list
+module _ {A B : Type 0} (f : A → B) (e : A) (d : B) where
+  pub mapped_each : (n : ℕ) (l : List A) (r : List B) → length l ≡ n → length r ≡ n → ((i : ℕ) → i < n → get_or r i d ≡ f (get_or l i e)) → r ≡ map f l
+  mapped_each n l r a b h =
+      ext_get_or d r (map f l) (b ∙ sym (length-map l f ∙ a)) (λ i c. let g : i < n = omega arith in h i g ∙ sym (get_or-map f l i e d (omega arith)))
+
+  pub mapped_more : (n : ℕ) (l : List A) (r : List B) (k : ℕ) (x : B) → k < length l → k < n → r ≡ padded d n (map f (take k l)) → x ≡ f (get_or l k e)
+      → set r k x ≡ padded d n (map f (take (k + 1) l))
+  mapped_more n l r k x h b w z =
+      let m : length (map f (take k l)) ≡ k = length-map (take k l) f ∙ length-take-le k l (omega arith) in
+      ap (λ (q : List B). set q k x) w ∙ ap (λ (i : ℕ). set (padded d n (map f (take k l))) i x) (sym m)
+      ∙ padded_put d n (map f (take k l)) x (omega arith)
+      ∙ ap (padded d n) (ap (λ (v : B). map f (take k l) ++ v ∷ []) z ∙ sym (map_more f l k e h))

@@ -1,12 +1,12 @@
 -- Laws of releases: the queue with a new job of each task, and the room for them.
 -- Assumes nothing.
 use Prim.Native.Nat.{ℕ, zero, suc, ◌+◌, ◌≤◌, ◌<◌}
-use mathlib.Core.Path.{◌≡◌, refl, sym, ◌∙◌, ap, ap₂}
+use mathlib.Core.Path.{◌≡◌, refl, sym, ◌∙◌, ap, subst}
 use mathlib.Core.List.{List, [], ◌∷◌, ◌++◌, Memᴰ}
 use native.Mathlib.Omega.{arith}
 use native.Mathlib.Numerals.{add-one}
 use lib.ListN.{length, get_or, take, get_or-eq_default}
-use lib.Seq.{take-suc, length-take-le}
+use lib.Seq.{take-suc, take_all}
 use Rattle.meaning.specs.Model.{Task, Model, no_task, task_at}
 use Rattle.meaning.specs.Machine.State as M
 use Rattle.meaning.specs.Machine.State.{order}
@@ -16,11 +16,9 @@ use Rattle.meaning.specs.Zones.Proper.{ProperJob}
 use Rattle.meaning.proofs.Hooks.{OfModel}
 use Rattle.meaning.proofs.Lists.{length_insert_at}
 use Rattle.meaning.proofs.Text.Choices.{by_lt}
-use Rattle.home.specs.declared.Releases.{Releases}
-use Rattle.home.specs.Stands.{Lists}
-use Rattle.machine.specs.Stands.{queue_of, cells_of}
-use Rattle.machine.specs.declared.Job.{Job}
-use Rattle.machine.proofs.QueueLaws.{queue_cells}
+use Rattle.machine.specs.Queues.{standing, Holds}
+use Rattle.machine.specs.declared.queue.Queue.{Queue}
+use Rattle.machine.proofs.QueueLaws.{holds_back}
 
 -- ---- new jobs in a queue
 
@@ -36,24 +34,17 @@ module _ (m : Model) where
   put_all_snoc [] t q = refl
   put_all_snoc (u ∷ ts) t q = put_all_snoc ts t (put m u q)
 
--- the first k of the tasks ts have come to the queue q; r are its cells
-pub record PutUpto (m : Model) (ts : List ℕ) (q : List M.Job) (r : List Job) (k : ℕ) : Type 0 where
-  pub is : r ≡ cells_of (put_all m (take k ts) q)
+-- the first k of the tasks ts have come to the queue q, which c holds; one more
+pub put_more : (m : Model) (ts : List ℕ) (q : List M.Job) (c d : Queue) (k : ℕ) → Holds c (put_all m (take k ts) q) → k < length ts → Holds d (put m (get_or ts k 0) (standing c))
+    → Holds d (put_all m (take (k + 1) ts) q)
+put_more m ts q c d k h l e =
+    let b : put m (get_or ts k 0) (standing c) ≡ put_all m (take (k + 1) ts) q =
+    ap (put m (get_or ts k 0)) (holds_back c _ h)
+    ∙ sym (ap (λ (i : ℕ). put_all m (take i ts) q) (add-one k) ∙ ap (λ (o : List ℕ). put_all m o q) (take-suc ts k 0 l) ∙ put_all_snoc m (take k ts) (get_or ts k 0) q) in
+    subst (Holds d) b e
 
-module _ (m : Model) (ts : List ℕ) (q : List M.Job) (n : ℕ) (l : n ≡ length q) where
-  pub put_more : (r next : List Job) (k : ℕ) → PutUpto m ts q r k → k < length ts → n + k ≤ 6
-      → next ≡ cells_of (put m (get_or ts k 0) (queue_of r (n + k))) → PutUpto m ts q next (k + 1)
-  put_more r next k w h room e =
-      let p = put_all m (take k ts) q in
-      let z : n + k ≡ length p = sym (put_all_length m (take k ts) q ∙ omega (arith, length-take-le k ts (omega arith))) in
-      let a : queue_of r (n + k) ≡ p = ap₂ queue_of w.is z ∙ queue_cells p (omega arith) in
-      let b : put_all m (take (k + 1) ts) q ≡ put m (get_or ts k 0) p =
-      ap (λ (i : ℕ). put_all m (take i ts) q) (add-one k) ∙ ap (λ (o : List ℕ). put_all m o q) (take-suc ts k 0 h) ∙ put_all_snoc m (take k ts) (get_or ts k 0) q in
-      record { is = e ∙ ap (λ (x : List M.Job). cells_of (put m (get_or ts k 0) x)) a ∙ ap cells_of (sym b) }
-
--- how many they are
-pub lists_many : (ts : List ℕ) (r : Releases) → Lists ts r → length r.tasks ≡ 4 → length ts ≡ r.count
-lists_many ts r w e = sym (ap length w.is) ∙ length-take-le r.count r.tasks (omega (arith, w.few))
+pub put_end : (m : Model) (ts : List ℕ) (q : List M.Job) (c : Queue) (k : ℕ) → Holds c (put_all m (take k ts) q) → length ts ≤ k → Holds c (put_all m ts q)
+put_end m ts q c k h l = subst (λ (o : List ℕ). Holds c (put_all m o q)) (take_all k ts l) h
 
 -- ---- room for them
 

@@ -2,47 +2,21 @@
 -- Assumes nothing.
 use Prim.Native.Nat.{ℕ, zero, suc, ◌+◌, ◌≤◌, ◌<◌}
 use mathlib.Core.Path.{◌≡◌, refl, sym, ◌∙◌, ap, subst}
-use mathlib.Core.Bool.{Bool, true, false, ◌&&◌, true≢false}
+use mathlib.Core.Bool.{Bool, true, ◌&&◌}
 use mathlib.Core.List.{List, [], ◌∷◌, ◌++◌, map}
 use native.Mathlib.Omega.{arith}
-use lib.Dec.{ltb}
-use lib.ListN.{length, get_or, take, set, length-append, length-set}
-use lib.Seq.{length-take-le, take-suc}
-use borrow.Author.Tests.{lt-ltb, le-ltb, ltb-true, ltb-false}
+use lib.ListN.{length, get_or, take, set, length-append, length-set, length-take}
+use lib.Seq.{take-suc}
 use Rattle.meaning.specs.Lists.{every}
-use Rattle.meaning.specs.Text.Choice.{pick}
-use Rattle.meaning.proofs.Tests.{and_left, and_right, and_both, never}
+use Rattle.meaning.proofs.Tests.{and_left, and_right, and_both}
 use Rattle.meaning.proofs.Lists.{map_append}
+use Rattle.refusals.specs.declared.Reason.{Reason}
 use Rattle.machine.specs.Stands.{no_job, task_of}
 use Rattle.machine.specs.ByCell.{timely, beats_in}
-use Rattle.machine.specs.ByPlace.{start_seen, bad_seen, next_seen, look_of}
+use Rattle.machine.specs.BySeen.{Start, Next, NotNext}
 use Rattle.machine.specs.declared.Job.{Job}
-use Rattle.machine.specs.declared.listed.Seen.{Seen}
+use Rattle.machine.specs.declared.seen.Seen.{Seen}
 use Rattle.machine.proofs.AllCells.{every_append}
-
--- ---- each way through the work at one job
-
-module _ (t : List ℕ) (n k : ℕ) (s : Seen) (j : Job) where
-  pub look_bad : s.good ≡ false → bad_seen ≡ look_of t n k s j
-  unfolding look_of
-  look_bad e = rw e
-
-  pub look_many : s.good ≡ true → 6 ≤ k → bad_seen ≡ look_of t n k s j
-  unfolding look_of
-  look_many e h = rw (e, le-ltb k 6 h)
-
-  pub look_late : s.good ≡ true → k < 6 → timely t j ≡ false → bad_seen ≡ look_of t n k s j
-  unfolding look_of
-  look_late e h f = rw (e, lt-ltb k 6 h, f)
-
-  pub look_on : s.good ≡ true → k < 6 → timely t j ≡ true → next_seen t n k s j ≡ look_of t n k s j
-  unfolding look_of
-  look_on e h f = rw (e, lt-ltb k 6 h, f)
-
-  pub next_is : (ts : List ℕ) (bs : List Bool) (b : Bool) → ts ≡ set s.tasks k j.task → bs ≡ set s.beaten k b → b ≡ beats_in t n j
-      → record { good = true; tasks = ts; beaten = bs } ≡ next_seen t n k s j
-  unfolding next_seen
-  next_is ts bs b e f g = rw (e, f, g)
 
 -- ---- one more at the end of a list
 
@@ -71,30 +45,24 @@ module _ (t : List ℕ) (n : ℕ) where
   -- what a walk knows of a list that is so
   pub record Sound (q : List Job) (s : Seen) : Type 0 where
     pub right : Rightly q
+    pub count : s.count ≡ length q
     pub six_tasks : length s.tasks ≡ 6
     pub six_beaten : length s.beaten ≡ 6
     pub tasks : take (length q) s.tasks ≡ map task_of q
     pub beaten : take (length q) s.beaten ≡ map (beats_in t n) q
 
-  pub record Looked (q : List Job) (s : Seen) : Type 0 where
-    pub good : s.good ≡ true → Sound q s
-    pub bad : s.good ≡ false → Rightly q → ⊥
-
-  pub looked_start : Looked [] start_seen
-  looked_start = record {
-    good = λ e. record { right = record { timely = refl; few = omega arith }; six_tasks = refl; six_beaten = refl; tasks = refl; beaten = refl };
-    bad = λ e. absurd (true≢false e);
+  pub sound_start : (s : Seen) → Start s → Sound [] s
+  sound_start s e = record {
+    right = record { timely = refl; few = omega arith };
+    count = e.count;
+    six_tasks = ap length e.tasks;
+    six_beaten = ap length e.beaten;
+    tasks = refl;
+    beaten = refl;
   }
 
   timely_snoc : (q : List Job) (j : Job) → every (timely t) (q ++ j ∷ []) ≡ (every (timely t) q && (timely t j && true))
   timely_snoc q j = every_append (timely t) q (j ∷ [])
-
-  -- a list that is right was right before its last
-  right_before : (q : List Job) (j : Job) → Rightly (q ++ j ∷ []) → Rightly q
-  right_before q j r =
-      let a = r.few in
-      let b = snoc_length q j in
-      record { timely = and_left (every (timely t) q) (timely t j && true) (sym (timely_snoc q j) ∙ r.timely); few = omega arith }
 
   right_last : (q : List Job) (j : Job) → Rightly (q ++ j ∷ []) → timely t j ≡ true
   right_last q j r = and_left (timely t j) true (and_right (every (timely t) q) (timely t j && true) (sym (timely_snoc q j) ∙ r.timely))
@@ -108,43 +76,46 @@ module _ (t : List ℕ) (n : ℕ) where
     few = let b = snoc_length q j in omega arith;
   }
 
-  looked_bad : (q : List Job) → (Rightly q → ⊥) → Looked q bad_seen
-  looked_bad q h = record { good = λ f. absurd (true≢false (sym f)); bad = λ f. h }
-
-  looked_taken : (q : List Job) (s : Seen) (j : Job) → Sound q s → length q < 6 → timely t j ≡ true → Looked (q ++ j ∷ []) (next_seen t n (length q) s j)
-  unfolding next_seen
-  looked_taken q s j w h e = record {
-    good = λ f. record {
-      right = right_more q j w.right h e;
-      six_tasks = length-set s.tasks (length q) j.task ∙ w.six_tasks;
-      six_beaten = length-set s.beaten (length q) (beats_in t n j) ∙ w.six_beaten;
-      tasks = let a = w.six_tasks in noted task_of s.tasks q j (omega arith) w.tasks;
-      beaten = let a = w.six_beaten in noted (beats_in t n) s.beaten q j (omega arith) w.beaten;
-    };
-    bad = λ f. absurd (true≢false f);
-  }
-
-  -- one more job
-  pub looked_more : (q : List Job) (s : Seen) (j : Job) → Looked q s → Looked (q ++ j ∷ []) (look_of t n (length q) s j)
-  unfolding look_of
-  looked_more q s j w = go s.good refl (ltb (length q) 6) refl (timely t j) refl
-    where
-      go : (a : Bool) → s.good ≡ a → (b : Bool) → ltb (length q) 6 ≡ b → (c : Bool) → timely t j ≡ c
-          → Looked (q ++ j ∷ []) (pick a (pick b (pick c (next_seen t n (length q) s j) bad_seen) bad_seen) bad_seen)
-      go true e true h true f = looked_taken q s j (w.good e) (ltb-true (length q) 6 h) f
-      go true e true h false f = looked_bad (q ++ j ∷ []) (λ r. never (right_last q j r) f)
-      go true e false h c f = looked_bad (q ++ j ∷ []) (λ r. let a = right_room q j r in let b = ltb-false (length q) 6 h in omega arith)
-      go false e b h c f = looked_bad (q ++ j ∷ []) (λ r. w.bad e (right_before q j r))
+  sound_taken : (q : List Job) (s r : Seen) (j : Job) → Sound q s → Next t n s j r → Sound (q ++ j ∷ []) r
+  sound_taken q s r j w e =
+      let k = w.count in
+      let h = e.room in
+      let a = w.six_tasks in
+      let b = w.six_beaten in
+      let x : r.tasks ≡ set s.tasks (length q) j.task = e.taken.tasks ∙ ap (λ (i : ℕ). set s.tasks i j.task) k in
+      let y : r.beaten ≡ set s.beaten (length q) (beats_in t n j) = e.taken.beaten ∙ ap (λ (i : ℕ). set s.beaten i (beats_in t n j)) k in
+      record {
+        right = right_more q j w.right (omega arith) e.timely;
+        count = e.taken.count ∙ ap suc k ∙ sym (snoc_length q j);
+        six_tasks = ap length x ∙ length-set s.tasks (length q) j.task ∙ a;
+        six_beaten = ap length y ∙ length-set s.beaten (length q) (beats_in t n j) ∙ b;
+        tasks = ap (take (length (q ++ j ∷ []))) x ∙ noted task_of s.tasks q j (omega arith) w.tasks;
+        beaten = ap (take (length (q ++ j ∷ []))) y ∙ noted (beats_in t n) s.beaten q j (omega arith) w.beaten;
+      }
 
 -- ---- from the list's start on
 
-pub looked_next : (t : List ℕ) (n : ℕ) (js : List Job) (k : ℕ) (s r : Seen) → Looked t n (take k js) s → k < length js → r ≡ look_of t n k s (get_or js k no_job) → Looked t n (take (k + 1) js) r
-looked_next t n js k s r w h e =
-    let l = length-take-le k js (omega arith) in
-    let z : k + 1 ≡ suc k = omega arith in
-    let a : take (k + 1) js ≡ take k js ++ get_or js k no_job ∷ [] = ap (λ (i : ℕ). take i js) z ∙ take-suc js k no_job h in
-    let b : look_of t n (length (take k js)) s (get_or js k no_job) ≡ r = ap (λ (i : ℕ). look_of t n i s (get_or js k no_job)) l ∙ sym e in
-    subst (λ (q : List Job). Looked t n q r) (sym a) (subst (Looked t n (take k js ++ get_or js k no_job ∷ [])) b (looked_more t n (take k js) s (get_or js k no_job) w))
+one_more : (js : List Job) (k : ℕ) → k < length js → take (k + 1) js ≡ take k js ++ get_or js k no_job ∷ []
+one_more js k h = let z : k + 1 ≡ suc k = omega arith in ap (λ (i : ℕ). take i js) z ∙ take-suc js k no_job h
 
-pub looked_few : (t : List ℕ) (n : ℕ) (js : List Job) (k : ℕ) (s : Seen) → Looked t n (take k js) s → k ≤ length js → s.good ≡ true → k ≤ 6
-looked_few t n js k s w h e = let l = length-take-le k js h in let p = (w.good e).right.few in omega arith
+pub sound_next : (t : List ℕ) (n : ℕ) (js : List Job) (k : ℕ) (s r : Seen) → Sound t n (take k js) s → k < length js → Next t n s (get_or js k no_job) r → Sound t n (take (k + 1) js) r
+sound_next t n js k s r w h e = subst (λ (q : List Job). Sound t n q r) (sym (one_more js k h)) (sound_taken t n (take k js) s r (get_or js k no_job) w e)
+
+-- what comes before a place in a list that is right is right
+right_take : (t : List ℕ) (n : ℕ) (js : List Job) (k : ℕ) → Rightly t n js → Rightly t n (take k js)
+right_take t n js k r = record {
+  timely = every_take (timely t) js k r.timely;
+  few = let a = r.few in let b = length-take k js in omega arith;
+}
+  where
+    every_take : (f : Job → Bool) (l : List Job) (i : ℕ) → every f l ≡ true → every f (take i l) ≡ true
+    every_take f l zero e = refl
+    every_take f [] (suc i) e = refl
+    every_take f (x ∷ l) (suc i) e = and_both (f x) (every f (take i l)) (and_left (f x) (every f l) e) (every_take f l i (and_right (f x) (every f l) e))
+
+-- a list with a job that is not right is not right
+pub wrong_next : (t : List ℕ) (n : ℕ) (js : List Job) (k : ℕ) (s : Seen) (e : Reason) → Sound t n (take k js) s → k < length js → NotNext t s (get_or js k no_job) e → Rightly t n js → ⊥
+wrong_next t n js k s e v h f r =
+    let c = v.count in
+    let w : Rightly t n (take k js ++ get_or js k no_job ∷ []) = subst (Rightly t n) (one_more js k h) (right_take t n js (k + 1) r) in
+    f.wrong (let m = right_room t n (take k js) (get_or js k no_job) w in omega arith) (right_last t n (take k js) (get_or js k no_job) w)

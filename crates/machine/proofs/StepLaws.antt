@@ -7,7 +7,8 @@ use mathlib.Core.List.{List, [], ◌∷◌, map}
 use mathlib.Core.Option.{Option, none, some}
 use native.Mathlib.Omega.{arith}
 use lib.Dec.{leb}
-use lib.ListN.{length, get_or, set, replicate, length-map}
+use lib.ListN.{length, take, set, replicate, length-map}
+use Rattle.std.specs.List.{list_all}
 use Rattle.meaning.specs.Lists.{nth1, nth1D, every}
 use Rattle.meaning.specs.Model.{Bound, Edge, Model, location_at, released, released_at_start}
 use Rattle.meaning.specs.Machine.State as M
@@ -21,24 +22,26 @@ use Rattle.meaning.specs.Machine.Run.{start}
 use Rattle.meaning.specs.Text.Choice.{pick}
 use Rattle.meaning.specs.Text.Refusals.{not_allowed, clock_end}
 use Rattle.model_table.specs.Right.{RightTable}
-use Rattle.meaning.specs.Text.ModelTable.{decode, edges}
+use Rattle.meaning.specs.Text.ModelTable.{decode, clocks, edges}
 use Rattle.meaning.proofs.Hooks.{releases_room, guard_test_is}
 use Rattle.meaning.proofs.Tests.{never}
 use Rattle.meaning.proofs.Text.Choices.{by_lt}
 use Rattle.model_table.specs.Parts.{limits_of, guard_of, resets_of, edge_of}
-use Rattle.model_table.proofs.PartLaws.{limits_is, edge_is, edge_no}
+use Rattle.model_table.proofs.PartLaws.{clocks_is, limits_is, edge_is, edge_no}
 use Rattle.home.specs.Asked.{leaves_if, leaves_by, target_if, target_by, released_if, released_by}
 use Rattle.home.proofs.HomeLaws.{released_right}
-use Rattle.machine.specs.Stands.{clock_most, queue_of, padded, cells_of, state_of, held, Lendable}
+use Rattle.machine.specs.Stands.{clock_most, padded, cells_of, state_of, held, Lendable}
 use Rattle.machine.specs.Promise.{went, missed, overflow, refused, within_end, told, answered}
-use Rattle.machine.specs.ByCell.{all_to, left_of}
+use Rattle.machine.specs.Queues.{standing, Holds}
+use Rattle.machine.specs.declared.queue.Queue.{Queue}
 use Rattle.machine.specs.BySteps.{moved_said}
 use Rattle.machine.specs.declared.Job.{Job}
 use Rattle.machine.specs.declared.State.{State}
+use Rattle.machine.proofs.AllCells.{all_padded}
 use Rattle.machine.proofs.Arrays.{padded_read}
-use Rattle.machine.proofs.QueueLaws.{queue_cells, served_length}
-use Rattle.machine.proofs.LendLaws.{lent_count, lent_few}
-use Rattle.machine.proofs.ReleaseLaws.{put_all_length, proper_tasks}
+use Rattle.machine.proofs.QueueLaws.{holds_back}
+use Rattle.machine.proofs.LendLaws.{lent_count}
+use Rattle.machine.proofs.ReleaseLaws.{proper_tasks}
 
 -- ---- tests of a list and of its cells
 
@@ -50,25 +53,6 @@ module _ {A : Type 0} where
 pub nth1D_padded : (n : ℕ) (cs : List ℕ) → length cs ≤ n → (k : ℕ) → nth1D (padded 0 n cs) k 0 ≡ nth1D cs k 0
 nth1D_padded n cs l zero = refl
 nth1D_padded n cs l (suc k) = padded_read 0 n cs k l
-
-and_true : (b : Bool) → (true && b) ≡ (b && true)
-and_true true = refl
-and_true false = refl
-
-and_and : (a b c : Bool) → ((a && b) && c) ≡ (a && (b && c))
-and_and true b c = refl
-and_and false b c = refl
-
-all_cons : (n : ℕ) (h : ℕ → Bool) → all_to (suc n) h ≡ (h 0 && all_to n (λ k. h (suc k)))
-all_cons zero h = and_true (h 0)
-all_cons (suc n) h = ap (λ (b : Bool). b && h (suc n)) (all_cons n h) ∙ and_and (h 0) (all_to n (λ k. h (suc k))) (h (suc n))
-
--- a test of each cell is one of each of the list, if an unused cell passes it
-pub all_cells : {A : Type 0} (d : A) (f : A → Bool) → f d ≡ true → (n : ℕ) (l : List A) → length l ≤ n → all_to n (λ k. f (get_or (padded d n l) k d)) ≡ every f l
-all_cells d f e zero [] h = refl
-all_cells d f e zero (x ∷ l) h = absurd (omega arith)
-all_cells d f e (suc n) [] h = all_cons n (λ k. f (get_or (d ∷ padded d n []) k d)) ∙ ap₂ (λ (a b : Bool). a && b) e (all_cells d f e n [] (omega arith))
-all_cells d f e (suc n) (x ∷ l) h = all_cons n (λ k. f (get_or (x ∷ padded d n l) k d)) ∙ ap (λ (b : Bool). f x && b) (all_cells d f e n l (omega arith))
 
 -- ---- resets
 
@@ -112,48 +96,43 @@ module _ (t : List ℕ) (g : RightTable t) (s : State) (w : Lendable (decode t) 
   grown_length : length (map suc x.clocks) ≤ 4
   grown_length = let a = length-map x.clocks suc in let b = clocks_length in let c = few in omega arith
 
-  pub tick_allowed : every (limit_test (padded 0 4 (map suc x.clocks))) (limits_of t s.location) ≡ allowed m x tick
-  tick_allowed =
-      ap (every (limit_test (padded 0 4 (map suc x.clocks)))) (limits_is t g s.location)
-      ∙ every_same (limit_test (padded 0 4 (map suc x.clocks))) (limit_test (map suc x.clocks))
-      (λ l. ap (λ (v : ℕ). leb v l.most) (nth1D_padded 4 (map suc x.clocks) grown_length l.clock)) (location_at m s.location).limits
+  -- the clocks after the tick
+  pub grown_is : (n : ℕ) (cs : List ℕ) → n ≡ clocks t → cs ≡ padded 0 4 (map suc (take n s.clocks)) → cs ≡ padded 0 4 (map suc x.clocks)
+  grown_is n cs e f = f ∙ ap (λ (k : ℕ). padded 0 4 (map suc (take k s.clocks))) (e ∙ clocks_is t g)
 
-  pub tick_within : all_to 4 (λ k. leb (get_or (padded 0 4 (map suc x.clocks)) k 0) clock_most) ≡ within_end x tick
-  tick_within = all_cells 0 (λ (c : ℕ). leb c clock_most) refl 4 (map suc x.clocks) grown_length
+  module _ (cs : List ℕ) (e : cs ≡ padded 0 4 (map suc x.clocks)) where
+    tick_allowed : every (limit_test cs) (limits_of t s.location) ≡ allowed m x tick
+    tick_allowed =
+        ap (λ (l : List ℕ). every (limit_test l) (limits_of t s.location)) e
+        ∙ ap (every (limit_test (padded 0 4 (map suc x.clocks)))) (limits_is t g s.location)
+        ∙ every_same (limit_test (padded 0 4 (map suc x.clocks))) (limit_test (map suc x.clocks))
+        (λ l. ap (λ (v : ℕ). leb v l.most) (nth1D_padded 4 (map suc x.clocks) grown_length l.clock)) (location_at m s.location).limits
 
-  -- the queue after the tick, in its cells
-  module _ (b : Bool) (js : List Job) (n : ℕ) (e : js ≡ cells_of (served b x.queue)) (f : n ≡ left_of s.count b) where
-    left_is : n ≡ length (served b x.queue)
-    left_is = f ∙ ap (λ (k : ℕ). left_of k b) (lent_count t g s w) ∙ sym (served_length x.queue b)
+    tick_within : list_all (λ (c : ℕ). leb c clock_most) cs ≡ within_end x tick
+    tick_within = ap (list_all (λ (c : ℕ). leb c clock_most)) e ∙ all_padded (λ (c : ℕ). leb c clock_most) 0 refl 4 (map suc x.clocks) grown_length
 
-    pub left_few : n ≤ 6
-    left_few = go b f
-      where
-        go : (c : Bool) → n ≡ left_of s.count c → n ≤ 6
-        go true h = let a = lent_few t g s w in omega arith
-        go false h = let a = lent_few t g s w in omega arith
+    -- each way through a tick
+    pub tick_broken : every (limit_test cs) (limits_of t s.location) ≡ false → refused not_allowed 0 s ≡ answered m s tick
+    tick_broken a = rw (sym tick_allowed ∙ a)
 
-    pub ticked_late : b ≡ finishes m x.queue → late m (queue_of js n) ≡ late m (tick_to m x).queue
-    ticked_late d =
-        let l = left_is in
-        let k = left_few in
-        ap (late m) (ap₂ queue_of e left_is ∙ queue_cells (served b x.queue) (omega arith)) ∙ ap (λ (c : Bool). late m (served c x.queue)) d
+    pub tick_ended : every (limit_test cs) (limits_of t s.location) ≡ true → list_all (λ (c : ℕ). leb c clock_most) cs ≡ false → refused clock_end 0 s ≡ answered m s tick
+    tick_ended a b = rw (sym tick_allowed ∙ a, sym tick_within ∙ b)
+
+    pub tick_answered : every (limit_test cs) (limits_of t s.location) ≡ true → list_all (λ (c : ℕ). leb c clock_most) cs ≡ true
+        → told s (act m x tick) ≡ answered m s tick
+    tick_answered a b = rw (sym tick_allowed ∙ a, sym tick_within ∙ b)
+
+  -- the queue after the tick
+  module _ (b : Bool) (c : Queue) (h : Holds c (served b x.queue)) where
+    pub ticked_late : b ≡ finishes m x.queue → late m (standing c) ≡ late m (tick_to m x).queue
+    ticked_late d = ap (late m) (holds_back c (served b x.queue) h) ∙ ap (λ (e : Bool). late m (served e x.queue)) d
 
     pub ticked_state : (cs : List ℕ) → cs ≡ padded 0 4 (map suc x.clocks) → b ≡ finishes m x.queue
-        → record { location = s.location; clocks = cs; jobs = js; count = n } ≡ held (tick_to m x)
-    ticked_state cs h d =
-        ap (λ (y : List ℕ). record { location = s.location; clocks = y; jobs = js; count = n }) h
-        ∙ ap₂ (λ (y : List Job) (k : ℕ). record { location = s.location; clocks = padded 0 4 (map suc x.clocks); jobs = y; count = k }) e left_is
-        ∙ ap (λ (c : Bool). record { location = s.location; clocks = padded 0 4 (map suc x.clocks); jobs = cells_of (served c x.queue); count = length (served c x.queue) }) d
-
-  pub tick_answered : allowed m x tick ≡ true → within_end x tick ≡ true → told s (act m x tick) ≡ answered m s tick
-  tick_answered a b = rw (a, b)
-
-  pub tick_ended : allowed m x tick ≡ true → within_end x tick ≡ false → refused clock_end 0 s ≡ answered m s tick
-  tick_ended a b = rw (a, b)
-
-  pub tick_broken : allowed m x tick ≡ false → refused not_allowed 0 s ≡ answered m s tick
-  tick_broken a = rw a
+        → record { location = s.location; clocks = cs; jobs = c.jobs; count = c.count } ≡ held (tick_to m x)
+    ticked_state cs e d =
+        ap (λ (y : List ℕ). record { location = s.location; clocks = y; jobs = c.jobs; count = c.count }) e
+        ∙ ap₂ (λ (y : List Job) (k : ℕ). record { location = s.location; clocks = padded 0 4 (map suc x.clocks); jobs = y; count = k }) h.jobs h.count
+        ∙ ap (λ (e : Bool). record { location = s.location; clocks = padded 0 4 (map suc x.clocks); jobs = cells_of (served e x.queue); count = length (served e x.queue) }) d
 
   -- ---- an edge
 
@@ -219,12 +198,9 @@ module _ (t : List ℕ) (g : RightTable t) (s : State) (w : Lendable (decode t) 
     pub moved_over : overflows_any m (released_by m n) (order x.queue) ≡ true → overflow s ≡ moved_said m s n cs
     moved_over e = rw e
 
-    pub moved_went : overflows_any m (released_by m n) (order x.queue) ≡ false → (l : ℕ) (js : List Job) (k : ℕ) → l ≡ target_by m n s.location
-        → js ≡ cells_of (put_all m (released_by m n) x.queue) → k ≡ s.count + length (released_by m n)
-        → went (record { location = l; clocks = cs; jobs = js; count = k }) ≡ moved_said m s n cs
-    moved_went e l js k a b c =
-        let d : k ≡ length (put_all m (released_by m n) x.queue) = omega (arith, c, lent_count t g s w, put_all_length m (released_by m n) x.queue) in
-        rw (e, a, b, d)
+    pub moved_went : overflows_any m (released_by m n) (order x.queue) ≡ false → (l : ℕ) (c : Queue) → l ≡ target_by m n s.location
+        → Holds c (put_all m (released_by m n) x.queue) → went (record { location = l; clocks = cs; jobs = c.jobs; count = c.count }) ≡ moved_said m s n cs
+    moved_went e l c a h = rw (e, a, h.jobs, h.count)
 
   -- the queue has room for what the edge releases
   pub moved_room : (n : ℕ) → overflows_any m (released_by m n) (order x.queue) ≡ false → s.count + length (released_by m n) ≤ 6
@@ -241,8 +217,8 @@ zeros zero k = refl
 zeros (suc n) zero = ap (λ (l : List ℕ). 0 ∷ l) (zeros n 0)
 zeros (suc n) (suc k) = ap (λ (l : List ℕ). 0 ∷ l) (zeros n k)
 
-pub start_held : (m : Model) (js : List Job) (n : ℕ) → js ≡ cells_of (put_all m (released_at_start m) []) → n ≡ length (put_all m (released_at_start m) [])
-    → record { location = 1; clocks = replicate 4 0; jobs = js; count = n } ≡ held (start m)
-start_held m js n e f =
-    ap₂ (λ (x : List Job) (k : ℕ). record { location = 1; clocks = replicate 4 0; jobs = x; count = k }) e f
+pub start_held : (m : Model) (c : Queue) → Holds c (put_all m (released_at_start m) [])
+    → record { location = 1; clocks = replicate 4 0; jobs = c.jobs; count = c.count } ≡ held (start m)
+start_held m c h =
+    ap₂ (λ (x : List Job) (k : ℕ). record { location = 1; clocks = replicate 4 0; jobs = x; count = k }) h.jobs h.count
     ∙ ap (λ (cs : List ℕ). record { location = 1; clocks = cs; jobs = cells_of (put_all m (released_at_start m) []); count = length (put_all m (released_at_start m) []) }) (sym (zeros 4 m.clocks))

@@ -16,12 +16,16 @@ use Rattle.meaning.specs.Text.Records.{Answer, done, refused, write}
 use Rattle.meaning.proofs.Lists.{same_list_eq, same_list_refl}
 use Rattle.meaning.proofs.Tests.{never}
 use Rattle.meaning.proofs.Text.ModelTheorems.{given_iff}
+use Rattle.std.proofs.Common.{Result, Ok, Err}
+use Rattle.refusals.specs.Number.{number_of}
+use Rattle.refusals.specs.declared.Reason.{Reason}
+use Rattle.refusals.proofs.Once.{number_once}
 use Rattle.model_table.specs.Right.{RightTable}
 use Rattle.model_table.proofs.GivenLaws.{given_table}
 use Rattle.model_table.proofs.PartLaws.{tasks_is}
 use Rattle.machine.specs.Stands.{job_of, task_of, Lendable}
 use Rattle.machine.specs.Promise.{said, said_by, place_said, UsableState, Stepped, Started, Listed, Placing}
-use Rattle.machine.specs.ByCell.{all_to, clock_right, timely, job_right}
+use Rattle.machine.specs.ByCell.{clocks_right, timely, jobs_right}
 use Rattle.machine.specs.declared.Job.{Job}
 use Rattle.machine.specs.declared.State.{State}
 use Rattle.machine.specs.declared.Outcome.{Outcome}
@@ -29,7 +33,7 @@ use Rattle.machine.specs.declared.Outcome.TheVariants.{Went, Missed, Overflowed,
 use Rattle.machine.specs.declared.Reply.{Reply}
 use Rattle.machine.specs.declared.Placed.{Placed}
 use Rattle.machine.specs.declared.Placed.TheVariants as Alt
-use Rattle.machine.proofs.LendLaws.{lendable_make, lent_high, lent_few, lent_long, lent_room, lent_clock_cells, lent_job_cells, lent_fit}
+use Rattle.machine.proofs.LendLaws.{lendable_make, lent_high, lent_few, lent_long, lent_room, lent_clocks_right, lent_jobs_right, lent_fit}
 use Rattle.machine.proofs.PlaceLaws.{listed_timely, listed_fit, right_listed}
 
 -- ---- what a test tells
@@ -65,11 +69,11 @@ lendable_or_not t g s =
     one (yes a) (yes b) (yes c) (no d) e = no (λ w. d (lent_long t g s w))
     one (yes a) (yes b) (yes c) (yes d) (no e) = no (λ w. e (lent_room t g s w))
     one (yes a) (yes b) (yes c) (yes d) (yes e) =
-        by_test (all_to 4 (clock_right s.clocks (clocks t)))
-        (λ cs. by_test (all_to 6 (job_right t s.jobs s.count))
+        by_test (clocks_right s.clocks (clocks t))
+        (λ cs. by_test (jobs_right t s.jobs s.count)
         (λ js. by_test (fits (decode t) (take s.count (map task_of s.jobs))) (λ f. yes (lendable_make t g s a b c d e cs js f)) (λ f. no (λ w. never (lent_fit t g s w) f)))
-        (λ js. no (λ w. never (lent_job_cells t g s w) js)))
-        (λ cs. no (λ w. never (lent_clock_cells t g s w) cs))
+        (λ js. no (λ w. never (lent_jobs_right t g s w) js)))
+        (λ cs. no (λ w. never (lent_clocks_right t g s w) cs))
 
 usable_or_not : (t : List ℕ) (s : State) → Dec (UsableState t s)
 usable_or_not t s = go (given_or_not t)
@@ -100,7 +104,7 @@ said_same Overflowed (Refused n) s u e = absurd (let z : ◌≡◌ {A = ℕ} 0 1
 said_same (Refused n) Went s u e = absurd (let z : ◌≡◌ {A = ℕ} 0 1 = cc in omega arith)
 said_same (Refused n) (Missed k) s u e = absurd (let z : ◌≡◌ {A = ℕ} 0 1 = cc in omega arith)
 said_same (Refused n) Overflowed s u e = absurd (let z : ◌≡◌ {A = ℕ} 0 1 = cc in omega arith)
-said_same (Refused n) (Refused k) s u e = let z : s ≡ u = cc in let y : n ≡ k = cc in rw (z, y)
+said_same (Refused n) (Refused k) s u e = let z : s ≡ u = cc in let y : number_of n ≡ number_of k = cc in rw (z, number_once n k y)
 
 -- ---- tick and edge
 
@@ -133,18 +137,18 @@ listed_or_not t g n js = go (dec_le 1 n) (dec_le n (tasks t))
         (λ e. by_test (fits (decode t) (map task_of js)) (λ f. yes (right_listed t g n js a b e f)) (λ f. no (λ w. never (listed_fit t g n js w) f)))
         (λ e. no (λ w. never (listed_timely t g n js w) e))
 
-place_same : (a b : Placed) → place_said a ≡ place_said b → a ≡ b
-place_same (Alt.At k) (Alt.At j) e = let z : k ≡ j = cc in rw z
-place_same (Alt.At k) Alt.Overflowed e = absurd (let z : ◌≡◌ {A = ℕ} 0 1 = cc in omega arith)
-place_same (Alt.At k) (Alt.Refused n) e = absurd (let z : ◌≡◌ {A = ℕ} 0 1 = cc in omega arith)
-place_same Alt.Overflowed (Alt.At k) e = absurd (let z : ◌≡◌ {A = ℕ} 0 1 = cc in omega arith)
-place_same Alt.Overflowed Alt.Overflowed e = refl
-place_same Alt.Overflowed (Alt.Refused n) e = absurd (let z : ◌≡◌ {A = ℕ} 0 1 = cc in omega arith)
-place_same (Alt.Refused n) (Alt.At k) e = absurd (let z : ◌≡◌ {A = ℕ} 0 1 = cc in omega arith)
-place_same (Alt.Refused n) Alt.Overflowed e = absurd (let z : ◌≡◌ {A = ℕ} 0 1 = cc in omega arith)
-place_same (Alt.Refused n) (Alt.Refused k) e = let z : n ≡ k = cc in rw z
+place_same : (a b : Result Placed Reason) → place_said a ≡ place_said b → a ≡ b
+place_same (Ok (Alt.At k)) (Ok (Alt.At j)) e = let z : k ≡ j = cc in rw z
+place_same (Ok (Alt.At k)) (Ok Alt.Overflowed) e = absurd (let z : ◌≡◌ {A = ℕ} 0 1 = cc in omega arith)
+place_same (Ok (Alt.At k)) (Err n) e = absurd (let z : ◌≡◌ {A = ℕ} 0 1 = cc in omega arith)
+place_same (Ok Alt.Overflowed) (Ok (Alt.At k)) e = absurd (let z : ◌≡◌ {A = ℕ} 0 1 = cc in omega arith)
+place_same (Ok Alt.Overflowed) (Ok Alt.Overflowed) e = refl
+place_same (Ok Alt.Overflowed) (Err n) e = absurd (let z : ◌≡◌ {A = ℕ} 0 1 = cc in omega arith)
+place_same (Err n) (Ok (Alt.At k)) e = absurd (let z : ◌≡◌ {A = ℕ} 0 1 = cc in omega arith)
+place_same (Err n) (Ok Alt.Overflowed) e = absurd (let z : ◌≡◌ {A = ℕ} 0 1 = cc in omega arith)
+place_same (Err n) (Err k) e = let z : number_of n ≡ number_of k = cc in rw (number_once n k z)
 
-pub placing_once : (t : List ℕ) (js : List Job) (n : ℕ) (r r' : Placed) → Placing t js n r → Placing t js n r' → r ≡ r'
+pub placing_once : (t : List ℕ) (js : List Job) (n : ℕ) (r r' : Result Placed Reason) → Placing t js n r → Placing t js n r' → r ≡ r'
 placing_once t js n r r' a b = place_same r r' (go (given_or_not t))
   where
     listed : (g : Given t) → Dec (Listed (decode t) n (map job_of js)) → place_said r ≡ place_said r'

@@ -5,17 +5,10 @@ use Rattle.meaning.specs.Model.{Model}
 use Rattle.meaning.specs.Machine.State.{order}
 use Rattle.meaning.specs.Machine.Release.{overflows_any, put_all}
 use Rattle.meaning.specs.Text.Choice.{pick}
-use Rattle.meaning.specs.Text.ModelTable.{decode}
-use Rattle.model_table.specs.Right.{RightTable}
 use Rattle.home.specs.Asked.{target_by, released_by}
-use Rattle.machine.specs.Stands.{queue_of, cells_of, Lendable}
+use Rattle.machine.specs.Stands.{queue_of, cells_of}
 use Rattle.machine.specs.Promise.{Said, went, overflow}
 use Rattle.machine.specs.declared.State.{State}
-
--- what the steps ask: the table is right, and the state may be lent with it
-pub record Lent (t : List ℕ) (s : State) : Type 0 where
-  pub table : RightTable t
-  pub lendable : Lendable (decode t) s
 
 -- allowed edge k, with the clocks after its resets
 abbrev pub moved_said : Model → State → ℕ → List ℕ → Said

@@ -3,3 +3,5 @@ pub mod Promise
 pub mod ByCell
 pub mod BySteps
 pub mod ByPlace
+pub mod Queues
+pub mod BySeen

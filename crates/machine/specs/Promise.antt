@@ -1,6 +1,6 @@
 -- What the machine's functions promise, on every table, state and number.
 -- Assumes nothing.
-use Rattle.std.specs.Prelude.{ℕ, suc, ◌≤◌, ◌≡◌, Bool, true, leb, length, replicate}
+use Rattle.std.specs.Prelude.{ℕ, suc, ◌≤◌, ◌≡◌, Bool, true, Result, Ok, Err, leb, length, replicate}
 use mathlib.Core.List.{List, map, Memᴰ}
 use Rattle.meaning.specs.Lists.{every}
 use Rattle.meaning.specs.Model.{Model}
@@ -16,6 +16,8 @@ use Rattle.meaning.specs.Text.Choice.{pick}
 use Rattle.meaning.specs.Text.ModelReader.{Given}
 use Rattle.meaning.specs.Text.ModelTable.{decode}
 use Rattle.meaning.specs.Text.Refusals.{not_proper, not_allowed, clock_end}
+use Rattle.refusals.specs.Number.{number_of}
+use Rattle.refusals.specs.declared.Reason.{Reason}
 use Rattle.machine.specs.Stands.{clock_most, job_of, no_job, state_of, held, Lendable}
 use Rattle.machine.specs.declared.Job.{Job}
 use Rattle.machine.specs.declared.State.{State}
@@ -41,7 +43,7 @@ abbrev pub said_by : Outcome → State → Said
 said_by Went s = went s
 said_by (Missed k) s = missed s k
 said_by Overflowed s = overflow s
-said_by (Refused n) s = refused n 0 s
+said_by (Refused r) s = refused (number_of r) 0 s
 
 abbrev pub said : Reply → Said
 said r = said_by r.outcome r.state
@@ -95,11 +97,15 @@ pub data PlaceSaid : Type 0 where
   -- a refusal's number and place
   refused_place : ℕ → ℕ → PlaceSaid
 
+-- a place, or an overflow
+abbrev pub placed_said : Placed → PlaceSaid
+placed_said (Alt.At k) = at k
+placed_said Alt.Overflowed = full
+
 -- each case of the answer, by document 01's number and values
-abbrev pub place_said : Placed → PlaceSaid
-place_said (Alt.At k) = at k
-place_said Alt.Overflowed = full
-place_said (Alt.Refused n) = refused_place n 0
+abbrev pub place_said : Result Placed Reason → PlaceSaid
+place_said (Ok p) = placed_said p
+place_said (Err r) = refused_place (number_of r) 0
 
 -- the task is one of the model, and the list is a proper queue
 pub record Listed (m : Model) (n : ℕ) (q : List M.Job) : Type 0 where
@@ -109,7 +115,7 @@ pub record Listed (m : Model) (n : ℕ) (q : List M.Job) : Type 0 where
   pub fit : fits m (order q) ≡ true
 
 -- what `place` promises of the lent list js and a new job of task n: 13, then overflow, then the position
-pub record Placing (t : List ℕ) (js : List Job) (n : ℕ) (r : Placed) : Type 0 where
+pub record Placing (t : List ℕ) (js : List Job) (n : ℕ) (r : Result Placed Reason) : Type 0 where
   pub unusable : (Given t → Listed (decode t) n (map job_of js) → ⊥) → place_said r ≡ refused_place not_proper 0
   pub usable : Given t → Listed (decode t) n (map job_of js)
       → place_said r ≡ pick (overflows (decode t) n (order (map job_of js))) full (at (suc (place_of (decode t) n (map job_of js))))

@@ -1,63 +1,54 @@
 // The clocks of a state: the limits that a tick has to meet, the guard and the resets of an edge.
-ghost use Rattle.std.specs.Prelude.{◌≡◌, map, ℕ, suc, ◌+◌, ◌-◌, ◌≤◌, ◌<◌, ◌/◌, ◌%◌, length, get_or, take};
+ghost use Rattle.std.specs.Prelude.{◌≡◌, map, ℕ, suc, ◌+◌, ◌-◌, ◌≤◌, ◌<◌, ◌/◌, ◌%◌, leb, take};
+ghost use Rattle.std.specs.List.{list_all};
 ghost use Rattle.meaning.specs.Lists.{every, nth1D};
 ghost use Rattle.meaning.specs.Machine.Tick.{limit_test};
 ghost use Rattle.meaning.specs.Machine.Edge.{bound_test, reset_all};
-ghost use Rattle.model_table.specs.Parts.{limit_in, limits_of, bound_in, guard_of, reset_in, resets_of};
-ghost use Rattle.model_table.specs.Right.{RightTable};
+ghost use Rattle.model_table.specs.Parts.{limit_in, limits_of, bound_in, guard_of, resets_of};
 ghost use Rattle.machine.specs.Stands.{clock_most, padded};
-ghost use Rattle.machine.specs.ByCell.{limit_met, bound_met, grown_cell, kept_cell, UpToEnd};
+ghost use Rattle.machine.specs.ByCell.{limit_met, bound_met, UpToEnd};
 
-// Clock k after a tick; a clock that the model lacks stays 0.
-fn grown(clocks: [u32; 4], n: usize, k: usize) -> u32
-    requires { (k < 4) × UpToEnd clocks }
-    ensures { result ≡ grown_cell clocks n k }
+use super::{CLOCK_MOST, CLOCKS, Clocks};
+use model_table::ModelTable;
+
+// Is none of these clocks above the end?
+pub(crate) fn within_end(clocks: &[u32]) -> bool
+    ensures { result ≡ list_all (λ (c : ℕ). leb c clock_most) clocks.now }
 {
-    if k < n { clocks[k] + 1 } else { 0 }
+    clocks.iter().all(|&clock| clock <= CLOCK_MOST)
 }
 
-// The clocks after a tick: each of the first n grows by 1.
-pub(crate) fn grow(clocks: [u32; 4], n: usize) -> [u32; 4]
+// The clocks after a tick: each of the first n grows by 1. `UpToEnd` stays a clause, here and below: a state has its clocks in a plain array.
+pub(crate) fn grow(clocks: Clocks, n: usize) -> Clocks
     requires { (n ≤ 4) × UpToEnd clocks }
     ensures { result ≡ padded 0 4 (map suc (take n clocks)) }
 {
-    let mut r = [0; 4];
-    let mut k: usize = 0;
-    while k < 4 {
-        r[k] = grown(clocks, n, k);
-        k += 1;
+    let mut grown = [0; CLOCKS];
+    for k in 0..n {
+        grown[k] = clocks[k] + 1;
     }
-    r
+    grown
 }
 
 // Does the value of a clock meet its limit at a location, if it has one there?
 fn limit_met(model: &[u32], location: u32, clock: u32, value: u32) -> bool
     ensures { result ≡ limit_met (limit_in model.now location clock) value }
 {
-    let limit = model_table::limit(model, location, clock);
-    if limit == 0 {
-        return true;
+    match model_table::limit(model, location, clock) {
+        Some(most) => value <= most,
+        None => true,
     }
-    value < limit
 }
 
 // Do the clocks meet the limits of a location?
-pub(crate) fn limits_met(model: &[u32], location: u32, clocks: [u32; 4]) -> bool
+pub(crate) fn limits_met(model: &[u32], location: u32, clocks: Clocks) -> bool
     ensures { result ≡ every (limit_test clocks) (limits_of model.now location) }
 {
-    let mut k: usize = 0;
-    while k < 4 {
-        if limit_met(model, location, (k + 1) as u32, clocks[k]) {
-            k += 1;
-        } else {
-            return false;
-        }
-    }
-    true
+    (0..CLOCKS).all(|k| limit_met(model, location, (k + 1) as u32, clocks[k]))
 }
 
 // The value of variable i: 0, or a clock.
-fn value(clocks: [u32; 4], i: usize) -> u32
+fn value(clocks: Clocks, i: usize) -> u32
     requires { i ≤ 4 }
     ensures { result ≡ nth1D clocks i 0 }
 {
@@ -65,21 +56,20 @@ fn value(clocks: [u32; 4], i: usize) -> u32
 }
 
 // Is x minus y at most what the guard's bound of i minus j says, if there is one?
-fn bound_met(model: &[u32], edge: u32, i: u32, j: u32, x: u32, y: u32) -> bool
-    requires { RightTable model.now × (x ≤ clock_most) × (y ≤ clock_most) }
-    ensures { result ≡ bound_met (bound_in model.now edge i j) x y }
+fn bound_met(model: &ModelTable, edge: u32, i: u32, j: u32, x: u32, y: u32) -> bool
+    requires { (x ≤ clock_most) × (y ≤ clock_most) }
+    ensures { result ≡ bound_met (bound_in model.now.cells.now edge i j) x y }
 {
-    let bound = model_table::bound(model, edge, i, j);
-    if bound == 0 {
-        return true;
+    match model_table::bound(model.cells, edge, i, j) {
+        Some(c) => x as i32 - y as i32 <= c,
+        None => true,
     }
-    x + 10001 <= y + bound
 }
 
 // Does the guard's bound number x, in the rows of 5, hold of the clocks?
-fn row_met(model: &[u32], edge: u32, clocks: [u32; 4], x: usize) -> bool
-    requires { RightTable model.now × (x < 25) × UpToEnd clocks }
-    ensures { result ≡ bound_met (bound_in model.now edge (x / 5) (x % 5)) (nth1D clocks (x / 5) 0) (nth1D clocks (x % 5) 0) }
+fn row_met(model: &ModelTable, edge: u32, clocks: Clocks, x: usize) -> bool
+    requires { (x < 25) × UpToEnd clocks }
+    ensures { result ≡ bound_met (bound_in model.now.cells.now edge (x / 5) (x % 5)) (nth1D clocks (x / 5) 0) (nth1D clocks (x % 5) 0) }
 {
     let i = x / 5;
     let j = x % 5;
@@ -94,41 +84,22 @@ fn row_met(model: &[u32], edge: u32, clocks: [u32; 4], x: usize) -> bool
 }
 
 // Does the guard of an edge hold of the clocks?
-pub(crate) fn guard_holds(model: &[u32], edge: u32, clocks: [u32; 4]) -> bool
-    requires { RightTable model.now × UpToEnd clocks }
-    ensures { result ≡ every (bound_test clocks) (guard_of model.now edge) }
+pub(crate) fn guard_holds(model: &ModelTable, edge: u32, clocks: Clocks) -> bool
+    requires { UpToEnd clocks }
+    ensures { result ≡ every (bound_test clocks) (guard_of model.now.cells.now edge) }
 {
-    let mut x: usize = 0;
-    while x < 25 {
-        if row_met(model, edge, clocks, x) {
-            x += 1;
-        } else {
-            return false;
-        }
-    }
-    true
-}
-
-// A clock's value after an edge: 0 if it is reset.
-fn kept(model: &[u32], edge: u32, clock: u32, value: u32) -> u32
-    ensures { result ≡ kept_cell (reset_in model.now edge clock) value }
-{
-    if model_table::reset(model, edge, clock) {
-        0
-    } else {
-        value
-    }
+    (0..25).all(|x| row_met(model, edge, clocks, x))
 }
 
 // The clocks after the resets of an edge.
-pub(crate) fn reset(model: &[u32], edge: u32, clocks: [u32; 4]) -> [u32; 4]
+pub(crate) fn reset(model: &[u32], edge: u32, clocks: Clocks) -> Clocks
     ensures { result ≡ reset_all (resets_of model.now edge) clocks }
 {
-    let mut r = clocks;
-    let mut k: usize = 0;
-    while k < 4 {
-        r[k] = kept(model, edge, (k + 1) as u32, r[k]);
-        k += 1;
+    let mut after = clocks;
+    for k in 0..CLOCKS {
+        if model_table::reset(model, edge, (k + 1) as u32) {
+            after[k] = 0;
+        }
     }
-    r
+    after
 }

@@ -1,115 +1,89 @@
 // Which states may be lent: each clock, each job, each cell that is not used.
-ghost use Rattle.std.specs.Prelude.{◌≡◌, ◌+◌, ◌-◌, ◌<◌};
+ghost use Rattle.std.specs.Prelude.{◌≡◌, map, ℕ, ◌≤◌, ◌<◌, ◌&&◌, ltb, leb, eqb, take};
+ghost use Rattle.std.specs.List.{list_all};
 ghost use Rattle.meaning.specs.Text.ModelReader.{Given};
-ghost use Rattle.meaning.specs.Text.ModelTable.{decode};
-ghost use Rattle.model_table.specs.Right.{RightTable};
-ghost use Rattle.machine.specs.Stands.{Lendable};
+ghost use Rattle.meaning.specs.Text.ModelTable.{clocks, locations};
+ghost use Rattle.meaning.specs.Zones.Proper.{fits};
+ghost use Rattle.model_table.specs.Held.{model_of};
+ghost use Rattle.machine.specs.Stands.{task_of, Lendable};
 ghost use Rattle.machine.specs.Promise.{UsableState};
-ghost use Rattle.machine.specs.ByCell.{clock_right, ClocksJudged, timely, unused, job_right, QueueJudged, Tells};
+ghost use Rattle.machine.specs.ByCell.{clocks_right, timely, unused, jobs_right, Tells};
 
-use super::queue::tasks_of;
-use super::{Job, State};
+use super::clocks::within_end;
+use super::queue::{Queue, tasks_of};
+use super::{Clocks, JOBS, Job, State};
+use model_table::ModelTable;
 
-// Is clock k not above the end, or 0 where the model has no such clock?
-fn clock_right(clocks: [u32; 4], n: usize, k: usize) -> bool
-    requires { k < 4 }
-    ensures { result ≡ clock_right clocks n k }
+// Is each of these clocks 0?
+fn all_zero(clocks: &[u32]) -> bool
+    ensures { result ≡ list_all (λ (c : ℕ). eqb c 0) clocks.now }
 {
-    if k < n {
-        return clocks[k] <= 32000;
-    }
-    clocks[k] == 0
+    clocks.iter().all(|&clock| clock == 0)
 }
 
-// Are all clocks so?
-fn clocks_right(clocks: [u32; 4], n: usize) -> bool
-    ensures { ClocksJudged clocks n result }
+// Is none of the first n clocks above the end, and each other 0?
+fn clocks_right(clocks: Clocks, n: usize) -> bool
+    requires { n ≤ 4 }
+    ensures { result ≡ clocks_right clocks n }
 {
-    let mut k: usize = 0;
-    while k < 4 {
-        if clock_right(clocks, n, k) {
-            k += 1;
-        } else {
-            return false;
-        }
-    }
-    true
+    within_end(&clocks[..n]) && all_zero(&clocks[n..])
 }
 
 // Has the job work and time left?
 pub(crate) fn is_timely(model: &[u32], job: Job) -> bool
     ensures { result ≡ timely model.now job }
 {
-    if job.done < model_table::work(model, job.task) {
-        return job.age < model_table::deadline(model, job.task);
-    }
-    false
+    job.done < model_table::work(model, job.task)
+        && job.age < model_table::deadline(model, job.task)
 }
 
-// Is the cell unused?
-fn is_unused(job: Job) -> bool
-    ensures { result ≡ unused job }
+// Has each of these jobs work and time left?
+fn all_timely(model: &[u32], jobs: &[Job]) -> bool
+    ensures { result ≡ list_all (timely model.now) jobs.now }
 {
-    if job.task == 0 {
-        if job.done == 0 {
-            return job.age == 0;
-        }
-    }
-    false
+    jobs.iter().all(|&job| is_timely(model, job))
 }
 
-// Has the job at place k work and time left, or is the cell unused?
-fn job_right(model: &[u32], jobs: [Job; 6], count: usize, k: usize) -> bool
-    requires { k < 6 }
-    ensures { result ≡ job_right model.now jobs count k }
+// Is each of these cells unused?
+fn all_unused(jobs: &[Job]) -> bool
+    ensures { result ≡ list_all unused jobs.now }
 {
-    let job = jobs[k];
-    if k < count {
-        return is_timely(model, job);
-    }
-    is_unused(job)
+    jobs.iter().all(|&job| job == Job::NONE)
 }
 
-// Are all cells of the queue so?
-fn queue_right(model: &[u32], jobs: [Job; 6], count: usize) -> bool
-    ensures { QueueJudged model.now jobs count result }
+// Has each job of the queue work and time left, and is each cell behind them unused?
+fn jobs_right(model: &[u32], queue: Queue) -> bool
+    ensures { result ≡ jobs_right model.now queue.jobs queue.count }
 {
-    let mut k: usize = 0;
-    while k < 6 {
-        if job_right(model, jobs, count, k) {
-            k += 1;
-        } else {
-            return false;
-        }
-    }
-    true
+    all_timely(model, queue.order()) && all_unused(&queue.jobs[queue.count..])
+}
+
+// Is the location one of the model, and is there room for so many jobs?
+fn numbers_right(model: &[u32], location: u32, count: u32) -> bool
+    ensures { result ≡ (ltb 0 location && (leb location (locations model.now) && leb count 6)) }
+{
+    0 < location && location <= model_table::locations(model) && count as usize <= JOBS
+}
+
+// Are the cells of a state with these numbers right?
+#[tactic(auto, using(model_table::proofs::PartLaws::clocks_is))]
+fn cells_right(model: &ModelTable, state: State) -> bool
+    requires { state.count ≤ 6 }
+    ensures { result ≡ (clocks_right state.clocks (clocks model.now.cells.now) && (jobs_right model.now.cells.now state.jobs state.count && fits (model_of model.now) (take state.count (map task_of state.jobs)))) }
+{
+    let jobs = state.jobs;
+    let count = state.count as usize;
+    let tasks = tasks_of(jobs);
+    clocks_right(state.clocks, model_table::clocks(model.cells) as usize)
+        && jobs_right(model.cells, Queue { jobs, count })
+        && home::fits(model, &tasks[..count])
 }
 
 // May the state be lent?
-pub fn is_lendable(model: &[u32], state: State) -> bool
-    requires { RightTable model.now }
-    ensures { Tells result (Lendable (decode model.now) state) }
+pub fn is_lendable(model: &ModelTable, state: State) -> bool
+    ensures { Tells result (Lendable (model_of model.now) state) }
 {
-    let location = state.location;
-    if location == 0 {
-        return false;
-    }
-    if model_table::locations(model) < location {
-        return false;
-    }
-    let count = state.count;
-    if 6 < count {
-        return false;
-    }
-    let clocks = state.clocks;
-    if clocks_right(clocks, model_table::clocks(model) as usize) {
-        let jobs = state.jobs;
-        if queue_right(model, jobs, count as usize) {
-            return home::fits(model, tasks_of(jobs), count as usize);
-        }
-        return false;
-    }
-    false
+    numbers_right(model.cells, state.location, state.count) && cells_right(model, state)
 }
 
 // Is the table one that a text gives?
@@ -123,8 +97,5 @@ pub(crate) fn is_given(model: &[u32]) -> bool
 pub(crate) fn is_usable(model: &[u32], state: State) -> bool
     ensures { Tells result (UsableState model.now state) }
 {
-    if is_given(model) {
-        return is_lendable(model, state);
-    }
-    false
+    is_given(model) && is_lendable(&ModelTable { cells: model }, state)
 }

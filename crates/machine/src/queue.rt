@@ -1,38 +1,132 @@
 // The queue of a state: work and ages, the head that finishes, the first job that is late, and releases.
-ghost use Rattle.std.specs.Prelude.{◌≡◌, map, ◌+◌, ◌-◌, ◌≤◌, ◌<◌};
-ghost use Rattle.meaning.specs.Lists.{insert_at};
-ghost use Rattle.meaning.specs.Machine.Tick.{finishes, served, is_late, late};
-ghost use Rattle.meaning.specs.Machine.Place.{place_of};
+ghost use Rattle.std.specs.Prelude.{◌≡◌, Bool, map, ◌+◌, ◌-◌, ◌≤◌, ◌<◌, length, take, position};
+ghost use Rattle.meaning.specs.Machine.Tick.{finishes, served, is_late};
+ghost use Rattle.meaning.specs.Machine.Place.{place_from, place_of};
 ghost use Rattle.meaning.specs.Machine.Release.{put, put_all};
-ghost use Rattle.model_table.specs.Right.{RightTable};
-ghost use Rattle.meaning.specs.Text.ModelTable.{decode};
-ghost use Rattle.home.specs.Stands.{tasks_of};
-ghost use Rattle.machine.specs.Stands.{job_of, task_of, queue_of, cells_of};
-ghost use Rattle.machine.specs.ByCell.{sooner_in, shorter_in, beats_in, Young, aged_cell, after_cell, insert_cell, left_of};
+ghost use Rattle.model_table.specs.Held.{model_of};
+ghost use Rattle.machine.specs.Stands.{job_of, task_of, no_job, padded, cells_of};
+ghost use Rattle.machine.specs.ByCell.{sooner_in, shorter_in, beats_in, YoungJob, Young, older_cell};
 
-use super::{Job, Jobs};
-use home::{Releases, Tasks};
+use super::{JOBS, Job, Jobs};
+use home::Tasks;
+use model_table::{ModelTable, Policy};
 
-// The job at a place one tick older, with work done or not; behind the last job nothing.
-fn aged(jobs: [Job; 6], count: usize, from: usize, works: bool) -> Job
-    requires { (count ≤ 6) × Young jobs }
-    ensures { result ≡ aged_cell jobs count from works }
-{
-    if count <= from {
-        return Job {
-            task: 0,
+// The jobs of a queue, head first, and how many they are; the cells behind them are `Job::NONE`.
+#[derive(Clone, Copy)]
+pub(crate) struct Queue {
+    pub jobs: Jobs,
+    pub count: usize,
+    ghost few: { count ≤ 6 },
+}
+
+impl Queue {
+    ghost use Rattle.machine.specs.Queues.{standing, Holds};
+
+    // The jobs, head first.
+    pub(crate) fn order(&self) -> &[Job]
+        ensures { result.now ≡ take self.now.count self.now.jobs }
+    {
+        &self.jobs[..self.count]
+    }
+
+    // Is this tick the head's last? `Young` stays a clause, here and below: only a tick asks for it, and a queue that releases fill is not asked.
+    pub(crate) fn finishes(self, model: &ModelTable) -> bool
+        requires { Young self.jobs }
+        ensures { result ≡ finishes (model_of model.now) (standing self) }
+    {
+        if self.count == 0 {
+            return false;
+        }
+        let head = self.jobs[0];
+        model_table::work(model.cells, head.task) <= head.done + 1
+    }
+
+    // The jobs one tick older.
+    fn aged(self) -> Jobs
+        requires { Young self.jobs }
+        ensures { result ≡ padded no_job 6 (map older_cell (take self.count self.jobs)) }
+    {
+        let mut aged = [Job::NONE; JOBS];
+        for k in 0..self.count {
+            aged[k] = older(self.jobs[k]);
+        }
+        aged
+    }
+
+    // The queue after a tick at which the head finishes and leaves, or goes on.
+    pub(crate) fn served(self, finishes: bool) -> Queue
+        requires { Young self.jobs }
+        ensures { Holds result (served finishes (standing self)) }
+    {
+        let mut jobs = self.aged();
+        if finishes {
+            return Queue {
+                jobs: home::without_first(jobs, Job::NONE),
+                count: self.count.saturating_sub(1),
+            };
+        }
+        if 0 < self.count {
+            jobs[0].done += 1;
+        }
+        Queue {
+            jobs,
+            count: self.count,
+        }
+    }
+
+    // The first job that is late, by how many are in front of it.
+    pub(crate) fn first_late(&self, model: &ModelTable) -> Option<usize>
+        ensures { result ≡ position (λ (j : Job). is_late (model_of model.now) (job_of j)) (take self.now.count self.now.jobs) }
+    {
+        self.order().iter().position(|&job| is_late(model, job))
+    }
+
+    // How many jobs stay ahead of a new job of a task: from its first place on it goes in front of the first that it beats, else last.
+    fn place_of(self, model: &ModelTable, task: u32) -> usize
+        ensures { result ≡ place_of (model_of model.now) task (standing self) }
+    {
+        let tasks = tasks_of(self.jobs);
+        let from = home::first_place(model, task, &tasks[..self.count]);
+        let beaten = beaten_by(model.cells, task, self.jobs);
+        ahead(&beaten[..self.count], from)
+    }
+
+    // The queue with a new job of a task at its place.
+    fn put(self, model: &ModelTable, task: u32) -> Queue
+        requires { self.count < 6 }
+        ensures { Holds result (put (model_of model.now) task (standing self)) }
+    {
+        let new = Job {
+            task,
             done: 0,
             age: 0,
         };
+        let at = self.place_of(model, task);
+        Queue {
+            jobs: home::inserted(self.jobs, self.count, new, at, Job::NONE),
+            count: self.count + 1,
+        }
     }
-    let job = jobs[from];
-    if works {
-        return Job {
-            task: job.task,
-            done: job.done + 1,
-            age: job.age + 1,
-        };
+
+    // The queue with a new job of each task that is released, one after the other.
+    pub(crate) fn put_all(self, model: &ModelTable, releases: &[u32]) -> Queue
+        requires room { self.count + length releases.now ≤ 6 }
+        requires held { self.jobs ≡ cells_of (standing self) }
+        ensures { Holds result (put_all (model_of model.now) releases.now (standing self)) }
+    {
+        let mut queue = self;
+        for &task in releases {
+            queue = queue.put(model, task);
+        }
+        queue
     }
+}
+
+// A job one tick older.
+fn older(job: Job) -> Job
+    requires { YoungJob job }
+    ensures { result ≡ older_cell job }
+{
     Job {
         task: job.task,
         done: job.done,
@@ -40,84 +134,15 @@ fn aged(jobs: [Job; 6], count: usize, from: usize, works: bool) -> Job
     }
 }
 
-// The job at place k after a tick at which the head finishes and leaves, or goes on.
-fn job_after(jobs: [Job; 6], count: usize, finishes: bool, k: usize) -> Job
-    requires { (count ≤ 6) × (k < 6) × Young jobs }
-    ensures { result ≡ after_cell jobs count finishes k }
-{
-    if finishes {
-        return aged(jobs, count, k + 1, false);
-    }
-    aged(jobs, count, k, k == 0)
-}
-
-// The queue after a tick at which the head finishes and leaves, or goes on.
-pub(crate) fn serve(jobs: [Job; 6], count: usize, finishes: bool) -> [Job; 6]
-    requires { (count ≤ 6) × Young jobs }
-    ensures { result ≡ cells_of (served finishes (queue_of jobs count)) }
-{
-    let mut r = [Job {
-        task: 0,
-        done: 0,
-        age: 0,
-    }; 6];
-    let mut k: usize = 0;
-    while k < 6 {
-        r[k] = job_after(jobs, count, finishes, k);
-        k += 1;
-    }
-    r
-}
-
-// How many jobs are left after such a tick.
-pub(crate) fn left(count: usize, finishes: bool) -> usize
-    ensures { result ≡ left_of count finishes }
-{
-    if finishes {
-        if count == 0 {
-            return 0;
-        }
-        return count - 1;
-    }
-    count
-}
-
-// Is this tick the head's last?
-pub(crate) fn finishes(model: &[u32], jobs: [Job; 6], count: usize) -> bool
-    requires { RightTable model.now × (count ≤ 6) × Young jobs }
-    ensures { result ≡ finishes (decode model.now) (queue_of jobs count) }
-{
-    if count == 0 {
-        return false;
-    }
-    let head = jobs[0];
-    model_table::work(model, head.task) <= head.done + 1
-}
-
 // Has the job work left and no time left?
-fn is_late(model: &[u32], job: Job) -> bool
-    requires { RightTable model.now }
-    ensures { result ≡ is_late (decode model.now) (job_of job) }
+fn is_late(model: &ModelTable, job: Job) -> bool
+    ensures { result ≡ is_late (model_of model.now) (job_of job) }
 {
-    job.age == model_table::deadline(model, job.task)
-}
-
-// The first position at fault in the queue; 0: none.
-pub(crate) fn first_late(model: &[u32], jobs: [Job; 6], count: usize) -> u32
-    requires { RightTable model.now × (count ≤ 6) }
-    ensures { result ≡ late (decode model.now) (queue_of jobs count) }
-{
-    let mut k: usize = 0;
-    while k < count {
-        if is_late(model, jobs[k]) {
-            return (k + 1) as u32;
-        }
-        k += 1;
-    }
-    0
+    job.age == model_table::deadline(model.cells, job.task)
 }
 
 // Has a new job of a task fewer ticks left to its deadline than a queued job? At equality the larger number decides.
+#[tactic(auto, using(crate::proofs::JobLaws::sooner_older, crate::proofs::JobLaws::sooner_tie, crate::proofs::JobLaws::sooner_left))]
 fn is_sooner(model: &[u32], task: u32, job: Job) -> bool
     ensures { result ≡ sooner_in model.now task job }
 {
@@ -130,12 +155,14 @@ fn is_sooner(model: &[u32], task: u32, job: Job) -> bool
     let left = due - age;
     let fresh = model_table::deadline(model, task);
     if fresh == left {
-        return other < task;
+        other < task
+    } else {
+        fresh < left
     }
-    fresh < left
 }
 
 // Has a new job of a task less work than a queued job still owes?
+#[tactic(auto, using(crate::proofs::JobLaws::shorter_over, crate::proofs::JobLaws::shorter_owed))]
 fn is_shorter(model: &[u32], task: u32, job: Job) -> bool
     ensures { result ≡ shorter_in model.now task job }
 {
@@ -151,116 +178,43 @@ fn is_shorter(model: &[u32], task: u32, job: Job) -> bool
 pub(crate) fn beats(model: &[u32], task: u32, job: Job) -> bool
     ensures { result ≡ beats_in model.now task job }
 {
-    let policy = model_table::policy(model);
-    if policy == 1 {
-        return model_table::priority(model, job.task) < model_table::priority(model, task);
+    // a table that is right has a policy
+    match model_table::policy(model).unwrap_or(Policy::ShortestJob) {
+        Policy::FixedPriority => model_table::priority(model, job.task)
+            < model_table::priority(model, task),
+        Policy::EarliestDeadline => is_sooner(model, task, job),
+        Policy::ShortestJob => is_shorter(model, task, job),
     }
-    if policy == 2 {
-        return is_sooner(model, task, job);
-    }
-    is_shorter(model, task, job)
 }
 
 // The tasks of the jobs.
 pub fn tasks_of(jobs: Jobs) -> Tasks
     ensures { result ≡ map task_of jobs }
 {
-    let mut r = [0u32; 6];
-    let mut k: usize = 0;
-    while k < 6 {
-        let job = jobs[k];
-        r[k] = job.task;
-        k += 1;
-    }
-    r
+    jobs.map(|job| job.task)
 }
 
-// How many jobs of the queue stay ahead of a new job of a task: from its first place on it goes in front of the first that it beats, else last.
-fn place_among(model: &[u32], task: u32, jobs: [Job; 6], count: usize) -> usize
-    requires { RightTable model.now × (count ≤ 6) }
-    ensures { result ≡ place_of (decode model.now) task (queue_of jobs count) }
+// Which of the jobs does a new job of a task beat?
+fn beaten_by(model: &[u32], task: u32, jobs: Jobs) -> [bool; JOBS]
+    ensures { result ≡ map (beats_in model.now task) jobs }
 {
-    let mut k = home::first_place(model, task, tasks_of(jobs), count);
-    while k < count {
-        if beats(model, task, jobs[k]) {
-            return k;
-        }
-        k += 1;
-    }
-    k
+    jobs.map(|job| beats(model, task, job))
 }
 
-// The job at place k of the queue with a new job in it, which has as many jobs ahead as said.
-fn job_with(jobs: [Job; 6], count: usize, at: usize, job: Job, k: usize) -> Job
-    requires { (count ≤ 6) × (k < 6) }
-    ensures { result ≡ insert_cell jobs count at job k }
+// The first that is true, by how many are in front of it.
+fn first_true(tests: &[bool]) -> Option<usize>
+    ensures { result ≡ position (λ (b : Bool). b) tests.now }
 {
-    if k < at {
-        return jobs[k];
-    }
-    if k == at {
-        return job;
-    }
-    if count < k {
-        return Job {
-            task: 0,
-            done: 0,
-            age: 0,
-        };
-    }
-    jobs[k - 1]
+    tests.iter().position(|&test| test)
 }
 
-// The queue with a new job in it.
-fn insert(jobs: [Job; 6], count: usize, at: usize, job: Job) -> [Job; 6]
-    requires { (count ≤ 6) × (at ≤ count) }
-    ensures { result ≡ cells_of (insert_at at (job_of job) (queue_of jobs count)) }
+// How many of the jobs stay ahead: from a place on those that are not beaten.
+#[tactic(auto, using(crate::proofs::Searches::ahead_is))]
+pub(crate) fn ahead(beaten: &[bool], from: usize) -> usize
+    requires { from ≤ length beaten.now }
+    ensures place { result ≡ place_from from (λ (b : Bool). b) beaten.now }
+    ensures within { result ≤ length beaten.now }
 {
-    let mut r = [Job {
-        task: 0,
-        done: 0,
-        age: 0,
-    }; 6];
-    let mut k: usize = 0;
-    while k < 6 {
-        r[k] = job_with(jobs, count, at, job, k);
-        k += 1;
-    }
-    r
-}
-
-// The queue with a new job of a task at its place.
-fn put(model: &[u32], jobs: [Job; 6], count: usize, task: u32) -> [Job; 6]
-    requires { RightTable model.now × (count ≤ 6) }
-    ensures { result ≡ cells_of (put (decode model.now) task (queue_of jobs count)) }
-{
-    let at = place_among(model, task, jobs, count);
-    insert(
-        jobs,
-        count,
-        at,
-        Job {
-            task,
-            done: 0,
-            age: 0,
-        },
-    )
-}
-
-// The queue with a new job of each task that is released, one after the other.
-pub(crate) fn put_all(model: &[u32], releases: Releases, jobs: [Job; 6], count: usize) -> [Job; 6]
-    requires right_table { RightTable model.now }
-    requires count_bound { (releases.count ≤ 4) × (count + releases.count ≤ 6) × (jobs ≡ cells_of (queue_of jobs count)) }
-    ensures { result ≡ cells_of (put_all (decode model.now) (tasks_of releases) (queue_of jobs count)) }
-{
-    let new = releases.tasks;
-    let n = releases.count as usize;
-    let mut r = jobs;
-    let mut k: usize = 0;
-    while k < n {
-        let next = put(model, r, count + k, new[k]);
-        r = next;
-        k += 1;
-    }
-    r
+    let rest = &beaten[from..];
+    from + first_true(rest).unwrap_or(rest.len())
 }

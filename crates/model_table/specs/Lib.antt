@@ -1,2 +1,5 @@
 pub mod Parts
+pub mod Policies
 pub mod Right
+pub mod OneProof
+pub mod Held

@@ -1,34 +1,27 @@
-// How many tasks, locations and edges a model has.
-ghost use Rattle.std.specs.Prelude.{◌≡◌, ◌+◌, ◌*◌, ◌≤◌, ◌<◌};
-ghost use Rattle.meaning.specs.Text.ModelTable.{tasks, locations, edges, count, there};
-ghost use Rattle.meaning.specs.Text.Choice.{pick};
+// How many cells of a table have something in them: its tasks, locations and edges.
+ghost use Rattle.std.specs.Prelude.{◌≡◌, ◌+◌, ◌*◌, ◌^◌, ◌<◌, ◌≤◌};
+ghost use Rattle.meaning.specs.Text.ModelTable.{tasks, locations, edges, count};
 
 use super::cells::cell;
 
-// 1 if something is in the cell, else 0.
-fn one_if(model: &[u32], at: usize) -> u32
-    ensures { (result ≡ pick (there model.now at) 1 0) × (result ≤ 1) }
-{
-    if 0 < cell(model, at) { 1 } else { 0 }
-}
-
 // How many of n cells, each a step after the one before, have something in them.
-fn count_from(model: &[u32], from: usize, step: usize, n: u32) -> u32
-    requires { (from ≤ 100) × (step ≤ 31) × (n ≤ 32) }
-    ensures { result ≡ count model.now from step n }
+#[tactic(auto, using(crate::proofs::CountLaws::count_none, crate::proofs::CountLaws::count_there, crate::proofs::CountLaws::count_not))]
+pub fn count_from(table: &[u32], from: usize, step: usize, n: u32) -> u32
+    requires { from + step * n < 2 ^ 64 }
+    ensures counted { result ≡ count table.now from step n }
+    ensures few { result ≤ n }
 {
-    let mut c: u32 = 0;
-    let mut k: u32 = 0;
-    let mut p = from;
-    while k < n {
-        c += one_if(model, p);
-        p += step;
-        k += 1;
+    let mut found = 0;
+    for k in 0..n {
+        if 0 < cell(table, from + step * k as usize) {
+            found += 1;
+        }
     }
-    c
+    found
 }
 
 // How many tasks.
+#[tactic(auto, unfolding(meaning::specs::Text::ModelTable::tasks))]
 pub fn tasks(model: &[u32]) -> u32
     ensures { result ≡ tasks model.now }
 {
@@ -36,6 +29,7 @@ pub fn tasks(model: &[u32]) -> u32
 }
 
 // How many locations.
+#[tactic(auto, unfolding(meaning::specs::Text::ModelTable::locations))]
 pub fn locations(model: &[u32]) -> u32
     ensures { result ≡ locations model.now }
 {
@@ -43,6 +37,7 @@ pub fn locations(model: &[u32]) -> u32
 }
 
 // How many edges.
+#[tactic(auto, unfolding(meaning::specs::Text::ModelTable::edges))]
 pub fn edges(model: &[u32]) -> u32
     ensures { result ≡ edges model.now }
 {

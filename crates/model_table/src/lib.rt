@@ -1,22 +1,39 @@
 // The parts of a model's table, read where they stand. A number that names nothing reads 0.
 #![tactic(auto)]
 
-ghost use Rattle.std.specs.Prelude.{◌≡◌, ◌+◌, ◌-◌, ◌*◌, ◌≤◌, ◌<◌, get_or, length};
+ghost use Rattle.std.specs.Prelude.{◌≡◌, ◌+◌, ◌-◌, ◌*◌, ◌≤◌, ◌<◌, ◌⊎◌, suc, get_or, length, MatchOption};
 ghost use Rattle.meaning.specs.Text.ModelTable.{clocks, tasks, locations, edges, lowered, count};
 ghost use Rattle.model_table.specs.Parts.{of_task, of_location, of_edge, policy_in, work_in, deadline_in, priority_in, released_in, limit_in, from_in, to_in, bound_in, reset_in};
+ghost use Rattle.model_table.specs.Policies.{number_of};
 
 mod cells;
 mod counts;
+mod policies;
+mod right;
 
 pub use cells::{cell, less_one};
 use cells::{of_edge, of_location, of_task};
-pub use counts::{edges, locations, tasks};
+pub use counts::{count_from, edges, locations, tasks};
+pub use policies::Policy;
+pub use right::ModelTable;
 
-// The policy's number: 1 FPS, 2 EDF, 3 SJF.
-pub fn policy(model: &[u32]) -> u32
+// The policy's number, whether or not there is such a policy.
+pub fn policy_number(model: &[u32]) -> u32
     ensures { result ≡ policy_in model.now }
 {
     less_one(cell(model, 0))
+}
+
+// The policy; none where its number is no policy's.
+pub fn policy(model: &[u32]) -> Option<Policy>
+    ensures { MatchOption result ((policy_in model.now ≡ 0) ⊎ (3 < policy_in model.now)) (λ policy. policy_in model.now ≡ number_of policy) }
+{
+    match policy_number(model) {
+        1 => Some(Policy::FixedPriority),
+        2 => Some(Policy::EarliestDeadline),
+        3 => Some(Policy::ShortestJob),
+        _ => None,
+    }
 }
 
 // How many clocks.
@@ -47,24 +64,22 @@ pub fn priority(model: &[u32], task: u32) -> u32
     less_one(of_task(model, task, 2))
 }
 
-// The task that entering a location releases, or 0.
+// The task that entering a location releases, or 0, as the text has it.
 pub fn released(model: &[u32], location: u32) -> u32
     ensures { result ≡ released_in model.now location }
 {
     less_one(of_location(model, location, 0))
 }
 
-// The limit of a clock at a location and 1; 0: there is none.
-pub fn limit(model: &[u32], location: u32, clock: u32) -> u32
-    ensures { result ≡ limit_in model.now location clock }
+// The limit of a clock at a location, if there is one.
+#[tactic(auto, using(crate::proofs::CellLaws::limit_zero, crate::proofs::CellLaws::limit_out, crate::proofs::CellLaws::limit_in_lem))]
+pub fn limit(model: &[u32], location: u32, clock: u32) -> Option<u32>
+    ensures { MatchOption result (limit_in model.now location clock ≡ 0) (λ most. limit_in model.now location clock ≡ suc most) }
 {
-    if clock == 0 {
-        return 0;
+    match clock {
+        1..=4 => of_location(model, location, clock).checked_sub(1),
+        _ => None,
     }
-    if 4 < clock {
-        return 0;
-    }
-    of_location(model, location, clock)
 }
 
 // The location that an edge leaves.
@@ -81,36 +96,36 @@ pub fn to(model: &[u32], edge: u32) -> u32
     less_one(of_edge(model, edge, 1))
 }
 
-// c of the bound of i minus j in an edge's guard, 10,000 and 1; 0: there is none.
-pub fn bound(model: &[u32], edge: u32, i: u32, j: u32) -> u32
+// What is kept of the bound of i minus j in an edge's guard: c, 10,000 and 1; 0: there is none.
+#[tactic(auto, using(crate::proofs::CellLaws::bound_row, crate::proofs::CellLaws::bound_column, crate::proofs::CellLaws::bound_in_lem))]
+pub fn bound_cell(model: &[u32], edge: u32, i: u32, j: u32) -> u32
     ensures { result ≡ bound_in model.now edge i j }
 {
-    if 4 < i {
-        return 0;
+    if i <= 4 && j <= 4 {
+        of_edge(model, edge, 2 + 5 * i + j)
+    } else {
+        0
     }
-    if 4 < j {
-        return 0;
-    }
-    of_edge(model, edge, 2 + 5 * i + j)
 }
 
-// c itself, from such a cell.
-pub fn signed(kept: u32) -> i32
-    requires { (0 < kept) × (kept ≤ 20001) }
-    ensures { result ≡ lowered (kept - 1) }
+// c of the bound of i minus j in an edge's guard, if there is one; what is kept is never above 20,001 in a table that is right.
+#[tactic(auto, using(crate::proofs::SignedLaws::kept_lowered))]
+pub fn bound(model: &[u32], edge: u32, i: u32, j: u32) -> Option<i32>
+    ensures { let kept = bound_in model.now edge i j in MatchOption result ((kept ≡ 0) ⊎ (20001 < kept)) (λ c. (0 < kept) × (kept ≤ 20001) × (c ≡ lowered (kept - 1))) }
 {
-    (kept as i32) - 10001
+    match bound_cell(model, edge, i, j) {
+        kept @ 1..=20001 => Some(kept as i32 - 10001),
+        _ => None,
+    }
 }
 
 // Is a clock reset by an edge?
+#[tactic(auto, using(crate::proofs::CellLaws::reset_zero, crate::proofs::CellLaws::reset_out, crate::proofs::CellLaws::reset_in_lem))]
 pub fn reset(model: &[u32], edge: u32, clock: u32) -> bool
     ensures { result ≡ reset_in model.now edge clock }
 {
-    if clock == 0 {
-        return false;
+    match clock {
+        1..=4 => 0 < of_edge(model, edge, 26 + clock),
+        _ => false,
     }
-    if 4 < clock {
-        return false;
-    }
-    0 < of_edge(model, edge, 26 + clock)
 }

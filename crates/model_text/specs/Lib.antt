@@ -1,3 +1,3 @@
-pub mod Numbered
+pub mod Marks
 pub mod Meant
 pub mod Entered

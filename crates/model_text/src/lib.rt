@@ -10,5 +10,5 @@ mod reading; // reading.rt: the reader
 mod record_text; // record_text.rt: one record, from the table into the text
 mod writing; // writing.rt: the writer
 
-pub use reading::{Read, read_model};
-pub use writing::{Written, is_model, write_model};
+pub use reading::read_model;
+pub use writing::{is_model, write_model};

@@ -4,71 +4,56 @@ ghost use Rattle.std.specs.Prelude.{◌≡◌, ◌≤◌, length, replicate};
 ghost use Rattle.meaning.specs.Text.Ranges.{text_most};
 ghost use Rattle.meaning.specs.Text.Records as records;
 ghost use Rattle.meaning.specs.Text.ModelTable.{size};
-ghost use Rattle.meaning.specs.Text.ModelReader.{format, read_model, left};
-ghost use Rattle.model_text.specs.Meant.{Answered};
+ghost use Rattle.meaning.specs.Text.ModelReader.{format, read_model};
+ghost use Rattle.model_text.specs.Meant.{meant, Answered};
 
-use crate::records::Taken;
+use crate::records::Place;
 use crate::{records, tables};
-
-// What a reader answers: done, with what it has read in the lent table; or a refusal number and its place.
-#[derive(Clone, Copy)]
-pub enum Read {
-    Done,
-    Refused(u32, usize),
-}
+use refusals::{Reason, Refusal};
 
 // The longest text.
 const TEXT_MOST: usize = 65535;
 
-// All cells 0.
-fn clear(t: &mut [u32])
-    ensures { t.new ≡ replicate (length t.old) 0 }
-{
-    let mut i: usize = 0;
-    while i < t.len() {
-        t[i] = 0;
-        i += 1;
-    }
-}
-
 // The records of the text into the table, which is all 0 before.
-fn read_records(s: &[u8], t: &mut [u32]) -> Read
-    requires { (length t.old ≡ size) × (t.old ≡ replicate (length t.old) 0) × (length s.now ≤ text_most) }
-    ensures { Answered size (records.read format s.now) result t.new }
+fn read_records(s: &[u8], t: &mut [u32]) -> Result<(), Refusal>
+    requires { (length t.old ≡ size) × (t.old ≡ replicate size 0) }
+    ensures { meant result t.new ≡ records.read format s.now }
 {
-    let mut at: usize = 0;
-    let mut i: usize = 0;
-    loop {
-        match records::take(s, at, i, t) {
-            Taken::Next { at: next, cursor } => {
-                at = next;
-                i = cursor;
-            }
-            Taken::End => {
-                return Read::Done;
-            }
-            Taken::Fault(k, p) => {
-                clear(t);
-                return Read::Refused(k, p);
-            }
-        }
+    let mut place = Place { at: 0, cursor: 0 };
+    while let Some(next) = records::take(s, place, t)? {
+        place = next;
     }
+    Ok(())
 }
 
 // The model's text into the table.
-pub fn read_model(text: &[u8], table: &mut [u32]) -> Read
+#[tactic(auto, using(crate::proofs::Laws::Answering::answered_read, crate::proofs::Laws::Answering::read_rest))]
+pub fn read_model(text: &[u8], table: &mut [u32]) -> Result<(), Refusal>
     ensures { Answered (length table.old) (read_model (length table.old) text.now) result table.new }
 {
-    clear(table);
+    table.fill(0);
     if table.len() != tables::SIZE {
-        return Read::Refused(11, 0);
+        return Err(Refusal {
+            reason: Reason::WrongRoom,
+            place: 0,
+        });
     }
     if TEXT_MOST < text.len() {
-        return Read::Refused(1, TEXT_MOST);
+        return Err(Refusal {
+            reason: Reason::TooLong,
+            place: TEXT_MOST,
+        });
     }
-    let p = lines::first_stop(text);
-    if p < text.len() {
-        return Read::Refused(2, p);
+    let stop = lines::first_stop(text);
+    if stop < text.len() {
+        return Err(Refusal {
+            reason: Reason::CommaOrStop,
+            place: stop,
+        });
     }
-    read_records(text, table)
+    let answer = read_records(text, table);
+    if answer.is_err() {
+        table.fill(0);
+    }
+    answer
 }

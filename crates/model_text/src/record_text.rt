@@ -1,138 +1,114 @@
 // One record, from the table into the text.
 // Assumes nothing.
-ghost use Rattle.std.specs.Prelude.{◌≡◌, ◌++◌, map, ℕ, ◌+◌, ◌-◌, ◌<◌, ◌≤◌, length, get_or};
-ghost use Rattle.std.proofs.lemmas.List.Edits.{sets};
-ghost use Rattle.meaning.specs.Text.ModelText.{form};
+ghost use Rattle.std.specs.Prelude.{◌≡◌, ◌+◌, ◌-◌, ◌%◌, ◌<◌, ◌≤◌, length, Some};
 ghost use Rattle.meaning.specs.Text.ModelTable.{size};
-ghost use Rattle.meaning.specs.Text.ModelReader.{mark_in_edge, mark_at, keys_at, words, width, get, line};
-ghost use Rattle.lines.specs.Meant.{no_numbers};
+ghost use Rattle.meaning.specs.Text.ModelReader.{mark_in_edge, words, width, get, line, line_of};
 ghost use Rattle.lines.specs.Put.{Put};
-ghost use Rattle.model_text.specs.Numbered.{mark_no, MarkAt};
+ghost use Rattle.model_text.specs.Marks.{kind_of, kind_in, MarkAt, numbers_text};
 
-use crate::{rules, tables};
+use crate::marks::Mark;
+use crate::tables::number_in;
+use crate::{marks, rules, tables};
+use lines::Field;
 
 // The mark of an edge's record by its place in the edge.
-fn mark_in_edge(r: usize) -> u32
-    ensures { (mark_no result ≡ mark_in_edge r) × (result ≤ 8) × (result ≡ 5 → ⊥) × (result ≡ 7 → 2 ≤ r) }
+#[tactic(auto, unfolding(meaning::specs::Text::ModelReader::mark_in_edge))]
+fn mark_in_edge(r: usize) -> Option<Mark>
+    ensures is { kind_in result ≡ mark_in_edge r }
+    ensures few { result ≡ Some Mark.End → ⊥ }
+    ensures limit { result ≡ Some Mark.Limit → ⊥ }
+    ensures bound { result ≡ Some Mark.Bound → 2 ≤ r }
 {
-    if r == 0 {
-        6
-    } else if r == 1 {
-        0
-    } else if r < 27 {
-        7
-    } else {
-        8
+    match r {
+        0 => Some(Mark::Edge),
+        1 => None,
+        2..=26 => Some(Mark::Bound),
+        _ => Some(Mark::Reset),
     }
 }
 
-// The mark of the record whose slot is j, or 0.
-pub(crate) fn mark_at(j: usize) -> u32
+// The mark of the record whose slot is j; none where no record has this slot.
+#[tactic(auto, using(crate::proofs::Laws::Slots::mark_at_laws))]
+pub(crate) fn mark_at(j: usize) -> Option<Mark>
     ensures { MarkAt j result }
 {
-    if j < 1 {
-        1
-    } else if j < 2 {
-        2
-    } else if j < 20 {
-        if (j - 2) % 3 == 0 { 3 } else { 0 }
-    } else if j < 100 {
-        if (j - 20) % 5 == 0 { 4 } else { 5 }
-    } else {
-        mark_in_edge((j - 100) % 31)
+    match j {
+        0 => Some(Mark::Policy),
+        1 => Some(Mark::Clocks),
+        2..=19 => ((j - 2) % 3 == 0).then_some(Mark::Task),
+        20..=99 => Some(if (j - 20) % 5 == 0 {
+            Mark::Location
+        } else {
+            Mark::Limit
+        }),
+        _ => mark_in_edge((j - 100) % 31),
     }
 }
 
-// The number that a cell holds.
-fn number_in(t: &[u32], k: usize) -> u32
-    requires { k < length t.now }
-    ensures { result ≡ get_or t.now k 0 - 1 }
+fn plain(number: u32) -> Field
+    ensures { result ≡ record { below = 0; number = number } }
 {
-    if 0 < t[k] { t[k] - 1 } else { 0 }
+    Field { below: 0, number }
 }
 
-// The first byte of a mark.
-fn first_byte(q: u32) -> u8
-    requires { (0 < q) × (q ≤ 8) }
-    ensures { result ≡ (form (mark_no q)).first }
+// The numbers of the record whose slot is j, and the line feed.
+#[tactic(auto, using(crate::proofs::Laws::Slots::text_laws))]
+fn write_numbers(mark: Mark, t: &[u32], j: usize, buf: &mut [u8], at: usize) -> usize
+    requires slot { j ≤ size }
+    requires limit { mark ≡ Mark.Limit → 20 ≤ j }
+    requires bound { mark ≡ Mark.Bound → (100 ≤ j) × (2 ≤ (j - 100) % 31) }
+    requires room { at + length (numbers_text (kind_of mark) t.now j) ≤ length buf.old }
+    ensures { Put buf.old at (numbers_text (kind_of mark) t.now j) buf.new result }
 {
-    match q {
-        1 => 80,
-        2 => 67,
-        3 => 84,
-        4 => 76,
-        5 => 73,
-        6 => 69,
-        7 => 71,
-        _ => 82,
+    let here = plain(number_in(t, j));
+    match mark {
+        Mark::Task => lines::write_fields(
+            buf,
+            at,
+            &[here, plain(number_in(t, j + 1)), plain(number_in(t, j + 2))],
+        ),
+        Mark::Limit => lines::write_fields(buf, at, &[plain(((j - 20) % 5) as u32), here]),
+        Mark::Edge => lines::write_fields(buf, at, &[here, plain(number_in(t, j + 1))]),
+        Mark::Bound => {
+            let k = (j - 100) % 31 - 2;
+            let bound = Field {
+                below: rules::TIME_MOST,
+                number: here.number,
+            };
+            lines::write_fields(
+                buf,
+                at,
+                &[plain((k / 5) as u32), plain((k % 5) as u32), bound],
+            )
+        }
+        Mark::End => lines::write_fields(buf, at, &[]),
+        _ => lines::write_fields(buf, at, &[here]),
     }
 }
 
-// The second byte of a mark.
-fn second_byte(q: u32) -> u8
-    requires { (0 < q) × (q ≤ 8) }
-    ensures { result ≡ (form (mark_no q)).second }
+// The line of the record whose slot is j.
+#[tactic(auto, using(crate::proofs::Laws::Slots::line_is, crate::proofs::Laws::Slots::put_two))]
+pub(crate) fn write_record(mark: Mark, t: &[u32], j: usize, buf: &mut [u8], at: usize) -> usize
+    requires slot { j ≤ size }
+    requires limit { mark ≡ Mark.Limit → 20 ≤ j }
+    requires bound { mark ≡ Mark.Bound → (100 ≤ j) × (2 ≤ (j - 100) % 31) }
+    requires room { at + length (line_of (kind_of mark) j (words t.now j (width (kind_of mark)))) ≤ length buf.old }
+    ensures { Put buf.old at (line_of (kind_of mark) j (words t.now j (width (kind_of mark)))) buf.new result }
 {
-    match q {
-        1 => 79,
-        2 => 75,
-        3 => 75,
-        4 => 79,
-        5 => 86,
-        6 => 68,
-        7 => 85,
-        _ => 83,
-    }
-}
-
-// The numbers of the record with the mark q whose slot is j.
-fn numbers_of(q: u32, j: usize, t: &[u32]) -> [u32; 3]
-    requires { (0 < q) × (length t.now ≡ size) × (j < size) × MarkAt j q }
-    ensures { result ≡ sets no_numbers 0 (keys_at (mark_no q) j ++ map (λ (x : ℕ). x - 1) (words t.now j (width (mark_no q)))) }
-{
-    let mut v = [0; 3];
-    match q {
-        3 => {
-            v[0] = number_in(t, j);
-            v[1] = number_in(t, j + 1);
-            v[2] = number_in(t, j + 2);
-        }
-        5 => {
-            v[0] = ((j - 20) % 5) as u32;
-            v[1] = number_in(t, j);
-        }
-        6 => {
-            v[0] = number_in(t, j);
-            v[1] = number_in(t, j + 1);
-        }
-        7 => {
-            v[0] = (((j - 100) % 31 - 2) / 5) as u32;
-            v[1] = (((j - 100) % 31 - 2) % 5) as u32;
-            v[2] = number_in(t, j);
-        }
-        _ => {
-            v[0] = number_in(t, j);
-        }
-    }
-    v
+    let [first, second] = marks::bytes(mark);
+    buf[at] = first;
+    buf[at + 1] = second;
+    write_numbers(mark, t, j, buf, at + 2)
 }
 
 // The line of slot j; nothing where no record is.
+#[tactic(auto, using(crate::proofs::Laws::Slots::line_laws))]
 pub(crate) fn write_slot(t: &[u32], j: usize, buf: &mut [u8], at: usize) -> usize
-    requires { (length t.now ≡ size) × (j < size) × (at + length (line j (get t.now j)) ≤ length buf.old) }
+    requires { (j < size) × (at + length (line j (get t.now j)) ≤ length buf.old) }
     ensures { Put buf.old at (line j (get t.now j)) buf.new result }
 {
-    let q = mark_at(j);
-    if q == 0 {
-        return at;
+    match mark_at(j) {
+        Some(mark) if tables::is_there(t, j) => write_record(mark, t, j, buf, at),
+        _ => at,
     }
-    if !tables::is_there(t, j) {
-        return at;
-    }
-    let g = rules::ranges_of(q, t);
-    let below = g.below;
-    let v = numbers_of(q, j, t);
-    buf[at] = first_byte(q);
-    buf[at + 1] = second_byte(q);
-    lines::write_fields(buf, at + 2, g.n, below, v)
 }

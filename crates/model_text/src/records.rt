@@ -1,90 +1,110 @@
 // One record, from the text into the table.
 // Assumes nothing.
-ghost use Rattle.std.specs.Prelude.{◌≡◌, map, ℕ, suc, ◌+◌, ◌-◌, ◌≤◌, length, get_or};
+ghost use Rattle.std.specs.Prelude.{◌≡◌, map, ℕ, suc, ◌+◌, ◌≤◌, length, get_or};
 ghost use Rattle.std.proofs.lemmas.List.Edits.{sets};
 ghost use Rattle.meaning.specs.Text.Numerals.{too_large};
 ghost use Rattle.meaning.specs.Text.Ranges.{clocks_most};
 ghost use Rattle.meaning.specs.Text.ModelTable.{size, clocks};
 ghost use Rattle.meaning.specs.Text.ModelReader.{look};
-ghost use Rattle.lines.specs.Put.{firsts};
-ghost use Rattle.model_text.specs.Numbered.{mark_no};
-ghost use Rattle.model_text.specs.Entered.{entered, Enters};
+ghost use Rattle.model_text.specs.Marks.{kind_of};
+ghost use Rattle.model_text.specs.Entered.{MayStand, entered, Enters};
 ghost use Rattle.model_text.specs.Meant.{Stepped};
 
+use crate::marks::Mark;
 use crate::{marks, rules};
+use refusals::{Reason, Refusal};
 
-// What became of a record: the place after it and the next cursor, when it was entered; the text's end; or a refusal and its place.
-#[derive(Clone, Copy)]
-pub enum Taken {
-    Next { at: usize, cursor: usize },
-    End,
-    Fault(u32, usize),
+// Where the reading stands: a place in the text, and the cursor, which is the slot after the last record's.
+#[derive(Clone, Copy, Debug, PartialEq, Eq)]
+pub struct Place {
+    pub at: usize,
+    pub cursor: usize,
 }
 
-// The numbers from the k-th on up to the n-th, each with 1 added, into the cells from j on.
-fn store(t: &mut [u32], j: usize, v: [u32; 3], k: usize, n: usize)
-    requires { (k ≤ n) × (n ≤ 3) × (j + (n - k) ≤ length t.old) × ((i : ℕ) → get_or v i 0 ≤ too_large) }
-    ensures { t.new ≡ sets t.old j (map suc (firsts v k (n - k))) }
+// The numbers, each with 1 added, into the cells from j on.
+#[tactic(auto, using(crate::proofs::Laws::Taking::store_more))]
+fn store(t: &mut [u32], j: usize, v: &[u32])
+    requires room { j + length v.now ≤ length t.old }
+    requires small { (i : ℕ) → get_or v.now i 0 ≤ too_large }
+    ensures { t.new ≡ sets t.old j (map suc v.now) }
 {
-    let mut i: usize = k;
-    let mut p = j;
-    while i < n {
-        t[p] = v[i] + 1;
-        p += 1;
-        i += 1;
+    for (i, number) in v.iter().enumerate() {
+        t[j + i] = *number + 1;
     }
 }
 
-// The first n numbers v of a record at `at`, with the cursor at i; the line ends before next.
-fn enter(q: u32, at: usize, i: usize, t: &mut [u32], v: [u32; 3], n: usize, next: usize) -> Taken
-    requires { Enters q t.old v n }
-    ensures { Stepped (entered (mark_no q) at i t.old v n next) result t.old t.new }
+// The numbers of a record into the table; the line ends before next.
+#[tactic(auto, using(crate::proofs::Laws::Taking::entered_laws))]
+fn enter(
+    mark: Mark,
+    place: Place,
+    t: &mut [u32],
+    v: &[u32],
+    next: usize,
+) -> Result<Option<Place>, Refusal>
+    requires { Enters mark t.old v.now }
+    ensures { Stepped (entered (kind_of mark) place.at place.cursor t.old v.now next) result t.old t.new }
 {
-    let w = rules::wrong(q, t, v);
-    if 0 < w {
-        return Taken::Fault(w, at);
+    if let Some(reason) = rules::wrong(mark, t, v) {
+        return Err(Refusal {
+            reason,
+            place: place.at,
+        });
     }
-    let j = rules::slot(q, t, v);
-    if j < i {
-        return Taken::Fault(6, at);
+    let slot = rules::slot(mark, t, v);
+    if slot < place.cursor {
+        return Err(Refusal {
+            reason: Reason::NotRising,
+            place: place.at,
+        });
     }
-    let k = rules::keys(q);
-    store(t, j, v, k, n);
-    Taken::Next {
+    store(t, slot, &v[rules::keys(mark)..]);
+    Ok(Some(Place {
         at: next,
-        cursor: j + 1,
-    }
+        cursor: slot + 1,
+    }))
 }
 
-// The record at `at`, with the cursor at i.
-pub(crate) fn take(s: &[u8], at: usize, i: usize, t: &mut [u32]) -> Taken
-    requires { (length t.old ≡ size) × (clocks t.old ≤ clocks_most) × (at ≤ length s.now) }
-    ensures { Stepped (look s.now at i t.old) result t.old t.new }
+// The mark at a place, if it may stand there.
+#[tactic(auto, using(crate::proofs::Laws::Taking::stands_none))]
+fn standing(s: &[u8], place: Place, t: &[u32]) -> Result<Mark, Refusal>
+    requires { place.at ≤ length s.now }
+    ensures { MayStand s.now place.at place.cursor t.now result }
 {
-    let q = marks::mark(s, at);
-    if !rules::due(q, t) {
-        return Taken::Fault(3, at);
+    let Some(mark) = marks::read_mark(s, place.at) else {
+        return Err(Refusal {
+            reason: Reason::MarkNotHere,
+            place: place.at,
+        });
+    };
+    if !rules::due(mark, t) || rules::latest(mark, t) < place.cursor {
+        return Err(Refusal {
+            reason: Reason::MarkNotHere,
+            place: place.at,
+        });
     }
-    if rules::latest(q, t) < i {
-        return Taken::Fault(3, at);
+    if !rules::room(mark, t) {
+        return Err(Refusal {
+            reason: Reason::TooMany,
+            place: place.at,
+        });
     }
-    if !rules::room(q, t) {
-        return Taken::Fault(10, at);
+    Ok(mark)
+}
+
+// The record at a place into the table: the place after it; none where it was the last.
+pub(crate) fn take(s: &[u8], place: Place, t: &mut [u32]) -> Result<Option<Place>, Refusal>
+    requires { (length t.old ≡ size) × (clocks t.old ≤ clocks_most) × (place.at ≤ length s.now) }
+    ensures { Stepped (look s.now place.at place.cursor t.old) result t.old t.new }
+{
+    let mark = standing(s, place, t)?;
+    let line = rules::read_numbers(mark, s, place.at + 2, t)?;
+    match mark {
+        Mark::End if line.at < s.len() => Err(Refusal {
+            reason: Reason::MarkNotHere,
+            place: line.at,
+        }),
+        Mark::End => Ok(None),
+        _ => enter(mark, place, t, &line.numbers[..rules::many(mark)], line.at),
     }
-    let g = rules::ranges_of(q, t);
-    let below = g.below;
-    let low = g.low;
-    let high = g.high;
-    let line = lines::read_line(s, at + 2, g.n, below, low, high);
-    if 0 < line.refusal {
-        return Taken::Fault(line.refusal, line.at);
-    }
-    if q == 9 {
-        if line.at < s.len() {
-            return Taken::Fault(3, line.at);
-        }
-        return Taken::End;
-    }
-    let numbers = line.numbers;
-    enter(q, at, i, t, numbers, g.n, line.at)
 }

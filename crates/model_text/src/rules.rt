@@ -1,253 +1,225 @@
 // What a record is held to after what was read, mark by mark.
 // Assumes nothing.
 ghost use Rattle.std.specs.Prelude.{◌≡◌, [], ◌∷◌, ℕ, ◌≤◌, length, get_or};
-ghost use Rattle.meaning.specs.Text.Ranges.{time_most, prio_most, tasks_most};
+ghost use Rattle.meaning.specs.Text.Ranges.{prio_most, tasks_most};
 ghost use Rattle.meaning.specs.Text.Numerals.{too_large};
-ghost use Rattle.meaning.specs.Text.Lines.{between, around};
+ghost use Rattle.meaning.specs.Text.Lines as meaning;
+ghost use Rattle.meaning.specs.Text.Lines.{fields};
 ghost use Rattle.meaning.specs.Text.ModelText.{tk, form};
-ghost use Rattle.meaning.specs.Text.ModelTable.{size};
 ghost use Rattle.meaning.specs.Text.ModelReader as reader;
 ghost use Rattle.meaning.specs.Text.ModelReader.{rule};
-ghost use Rattle.model_text.specs.Numbered.{mark_no, RangesAre};
+ghost use Rattle.lines.specs.Meant.{range_of, Told};
+ghost use Rattle.model_text.specs.Marks.{kind_of};
+ghost use Rattle.model_text.specs.Entered.{number_in};
 
-use crate::tables;
+use crate::marks::Mark;
+use crate::tables::{
+    FIRST_EDGE, FIRST_LOCATION, FIRST_TASK, SIZE, is_there, last_edge, last_location,
+};
+use lines::{Line, Range};
+use model_table::{cell, clocks, edges, locations, tasks};
+use refusals::{Reason, Refusal};
 
 // The ends of document 01's ranges.
-const CLOCKS_MOST: u32 = 4;
-
 const POLICIES_MOST: u32 = 3;
 
-const TIME_MOST: u32 = 10000;
+const CLOCKS_MOST: u32 = 4;
 
-const PRIO_MOST: u32 = 6;
+const TASKS_MOST: u32 = 6;
 
-// The ranges of a record's numbers: how many they are, how far each goes below 0, and its ends as they are kept.
-#[derive(Clone, Copy)]
-pub struct Ranges {
-    pub n: usize,
-    pub below: [u32; 3],
-    pub low: [u32; 3],
-    pub high: [u32; 3],
-}
+const LOCATIONS_MOST: u32 = 16;
+
+const EDGES_MOST: u32 = 32;
+
+pub const TIME_MOST: u32 = 10000;
+
+const PRIORITY_MOST: u32 = 6;
 
 // Whether what must stand before the record is there.
-pub(crate) fn due(q: u32, t: &[u32]) -> bool
-    requires { length t.now ≡ size }
-    ensures { result ≡ (rule (mark_no q) t.now).due }
+#[tactic(auto, unfolding(meaning::specs::Text::ModelReader::rule))]
+pub(crate) fn due(mark: Mark, t: &[u32]) -> bool
+    ensures { result ≡ (rule (kind_of mark) t.now).due }
 {
-    match q {
-        1 => true,
-        2 => tables::is_there(t, 0),
-        3 => tables::is_there(t, 1),
-        4 => tables::is_there(t, 2),
-        5 => tables::is_there(t, 20),
-        6 => tables::is_there(t, 20),
-        7 => tables::is_there(t, 100),
-        8 => tables::is_there(t, 100),
-        9 => tables::is_there(t, 20),
-        _ => false,
+    match mark {
+        Mark::Policy => true,
+        Mark::Clocks => is_there(t, 0),
+        Mark::Task => is_there(t, 1),
+        Mark::Location => is_there(t, FIRST_TASK),
+        Mark::Limit | Mark::Edge | Mark::End => is_there(t, FIRST_LOCATION),
+        Mark::Bound | Mark::Reset => is_there(t, FIRST_EDGE),
     }
 }
 
 // The last cursor at which the record may stand.
-pub(crate) fn latest(q: u32, t: &[u32]) -> usize
-    requires { length t.now ≡ size }
-    ensures { result ≡ (rule (mark_no q) t.now).latest }
+#[tactic(auto, unfolding(meaning::specs::Text::ModelReader::rule))]
+pub(crate) fn latest(mark: Mark, t: &[u32]) -> usize
+    ensures { result ≡ (rule (kind_of mark) t.now).latest }
 {
-    match q {
-        1 => 0,
-        2 => 1,
-        3 => 20,
-        4 => 100,
-        5 => 100,
-        6 => tables::SIZE,
-        7 => tables::last_edge(t) + 27,
-        8 => tables::SIZE,
-        9 => tables::SIZE,
-        _ => 0,
+    match mark {
+        Mark::Policy => 0,
+        Mark::Clocks => 1,
+        Mark::Task => FIRST_LOCATION,
+        Mark::Location | Mark::Limit => FIRST_EDGE,
+        Mark::Bound => last_edge(t) + 27,
+        Mark::Edge | Mark::Reset | Mark::End => SIZE,
     }
 }
 
 // Whether there is room for one more.
-pub(crate) fn room(q: u32, t: &[u32]) -> bool
-    requires { length t.now ≡ size }
-    ensures { result ≡ (rule (mark_no q) t.now).room }
+#[tactic(auto, unfolding(meaning::specs::Text::ModelReader::rule))]
+pub(crate) fn room(mark: Mark, t: &[u32]) -> bool
+    ensures { result ≡ (rule (kind_of mark) t.now).room }
 {
-    match q {
-        3 => tables::tasks(t) < 6,
-        4 => tables::locations(t) < 16,
-        6 => tables::edges(t) < 32,
+    match mark {
+        Mark::Task => tasks(t) < TASKS_MOST,
+        Mark::Location => locations(t) < LOCATIONS_MOST,
+        Mark::Edge => edges(t) < EDGES_MOST,
         _ => true,
     }
 }
 
-fn none() -> Ranges
-    ensures { RangesAre [] result }
+fn between(low: u32, high: u32) -> Range
+    ensures { range_of result ≡ meaning.between low high }
 {
-    let zeros = [0; 3];
-    Ranges {
-        n: 0,
-        below: zeros,
-        low: zeros,
-        high: zeros,
+    Range {
+        below: 0,
+        low,
+        high,
     }
 }
 
-fn one(low: u32, high: u32) -> Ranges
-    ensures { RangesAre (between low high ∷ []) result }
+// The numbers of the record, each within its range.
+#[tactic(auto, unfolding(meaning::specs::Text::ModelReader::rule))]
+pub(crate) fn read_numbers(mark: Mark, s: &[u8], at: usize, t: &[u32]) -> Result<Line, Refusal>
+    ensures { Told (fields (rule (kind_of mark) t.now).ends s.now at) result }
 {
-    let zeros = [0; 3];
-    let lows = [low, 0, 0];
-    let highs = [high, 0, 0];
-    Ranges {
-        n: 1,
-        below: zeros,
-        low: lows,
-        high: highs,
-    }
-}
-
-fn two(low: u32, high: u32, low2: u32, high2: u32) -> Ranges
-    ensures { RangesAre (between low high ∷ between low2 high2 ∷ []) result }
-{
-    let zeros = [0; 3];
-    let lows = [low, low2, 0];
-    let highs = [high, high2, 0];
-    Ranges {
-        n: 2,
-        below: zeros,
-        low: lows,
-        high: highs,
-    }
-}
-
-// C, D, priority.
-fn of_task() -> Ranges
-    ensures { RangesAre (between 1 time_most ∷ between 1 time_most ∷ between 0 prio_most ∷ []) result }
-{
-    let zeros = [0; 3];
-    let lows = [1, 1, 0];
-    let highs = [TIME_MOST, TIME_MOST, PRIO_MOST];
-    Ranges {
-        n: 3,
-        below: zeros,
-        low: lows,
-        high: highs,
-    }
-}
-
-// i, j, c.
-fn of_bound(clocks: u32) -> Ranges
-    ensures { RangesAre (between 0 clocks ∷ between 0 clocks ∷ around time_most ∷ []) result }
-{
-    let belows = [0, 0, TIME_MOST];
-    let lows = [0; 3];
-    let highs = [clocks, clocks, 2 * TIME_MOST];
-    Ranges {
-        n: 3,
-        below: belows,
-        low: lows,
-        high: highs,
-    }
-}
-
-// The ranges of the record's numbers.
-pub(crate) fn ranges_of(q: u32, t: &[u32]) -> Ranges
-    requires { length t.now ≡ size }
-    ensures { RangesAre (rule (mark_no q) t.now).ends result }
-{
-    match q {
-        1 => one(1, POLICIES_MOST),
-        2 => one(0, CLOCKS_MOST),
-        3 => of_task(),
-        4 => one(0, tables::tasks(t) as u32),
-        5 => two(1, tables::clocks(t), 0, TIME_MOST),
-        6 => {
-            let n = tables::locations(t) as u32;
-            two(1, n, 1, n)
+    let time = between(0, TIME_MOST);
+    let clock = between(1, clocks(t));
+    match mark {
+        Mark::Policy => lines::read_line(s, at, &[between(1, POLICIES_MOST)]),
+        Mark::Clocks => lines::read_line(s, at, &[between(0, CLOCKS_MOST)]),
+        Mark::Task => {
+            let from_one = between(1, TIME_MOST);
+            lines::read_line(s, at, &[from_one, from_one, between(0, PRIORITY_MOST)])
         }
-        7 => of_bound(tables::clocks(t)),
-        8 => one(1, tables::clocks(t)),
-        _ => none(),
+        Mark::Location => lines::read_line(s, at, &[between(0, tasks(t))]),
+        Mark::Limit => lines::read_line(s, at, &[clock, time]),
+        Mark::Edge => {
+            let location = between(1, locations(t));
+            lines::read_line(s, at, &[location, location])
+        }
+        Mark::Bound => {
+            let variable = between(0, clocks(t));
+            let around = Range {
+                below: TIME_MOST,
+                low: 0,
+                high: 2 * TIME_MOST,
+            };
+            lines::read_line(s, at, &[variable, variable, around])
+        }
+        Mark::Reset => lines::read_line(s, at, &[clock]),
+        Mark::End => lines::read_line(s, at, &[]),
+    }
+}
+
+// How many numbers the record has.
+#[tactic(auto, unfolding(meaning::specs::Text::ModelText::form))]
+pub(crate) fn many(mark: Mark) -> usize
+    ensures many { result ≡ length (form (kind_of mark)).below }
+    ensures few { result ≤ 3 }
+{
+    match mark {
+        Mark::Policy | Mark::Clocks | Mark::Location | Mark::Reset => 1,
+        Mark::Limit | Mark::Edge => 2,
+        Mark::Task | Mark::Bound => 3,
+        Mark::End => 0,
     }
 }
 
 // How many of the record's numbers only say where it belongs.
-pub(crate) fn keys(q: u32) -> usize
-    ensures { result ≡ (form (mark_no q)).keys }
+#[tactic(auto, unfolding(meaning::specs::Text::ModelText::form))]
+pub(crate) fn keys(mark: Mark) -> usize
+    ensures many { result ≡ (form (kind_of mark)).keys }
+    ensures few { result ≤ length (form (kind_of mark)).below }
 {
-    match q {
-        5 => 1,
-        7 => 2,
+    match mark {
+        Mark::Limit => 1,
+        Mark::Bound => 2,
         _ => 0,
     }
 }
 
 // Whether a task has this priority.
-fn used(t: &[u32], p: u32) -> bool
-    requires { (length t.now ≡ size) × (p ≤ prio_most) }
-    ensures { result ≡ reader.used t.now p tasks_most }
+#[tactic(auto, using(crate::proofs::Laws::Rules::used_laws))]
+fn used(t: &[u32], priority: u32) -> bool
+    requires { priority ≤ prio_most }
+    ensures { result ≡ reader.used t.now priority tasks_most }
 {
-    let mut k: usize = 0;
-    while k < 6 {
-        if t[4 + 3 * k] == p + 1 {
+    for k in 0..TASKS_MOST as usize {
+        if cell(t, 4 + 3 * k) == priority + 1 {
             return true;
         }
-        k += 1;
     }
     false
 }
 
 // FPS: priority 0 or used before. EDF and SJF: not 0.
-fn misfit(t: &[u32], p: u32) -> bool
-    requires { (length t.now ≡ size) × (p ≤ prio_most) }
-    ensures { result ≡ reader.misfit t.now p }
+#[tactic(auto, unfolding(meaning::specs::Text::ModelReader::misfit))]
+fn misfit(t: &[u32], priority: u32) -> bool
+    requires { priority ≤ prio_most }
+    ensures { result ≡ reader.misfit t.now priority }
 {
-    if t[0] != 2 {
-        return 0 < p;
+    if cell(t, 0) == 2 {
+        priority == 0 || used(t, priority)
+    } else {
+        0 < priority
     }
-    if p == 0 {
-        return true;
-    }
-    used(t, p)
 }
 
 // C over D, or a priority that does not fit.
-fn wrong_task(t: &[u32], c: u32, d: u32, p: u32) -> u32
-    requires { (length t.now ≡ size) × (p ≤ prio_most) }
-    ensures { result ≡ (rule tk t.now).wrong (c ∷ d ∷ p ∷ []) }
+#[tactic(auto, unfolding(meaning::specs::Text::ModelReader::rule))]
+fn wrong_task(t: &[u32], c: u32, d: u32, priority: u32) -> Option<Reason>
+    requires { priority ≤ prio_most }
+    ensures { number_in result ≡ (rule tk t.now).wrong (c ∷ d ∷ priority ∷ []) }
 {
     if d < c {
-        return 7;
+        Some(Reason::WorkOverDeadline)
+    } else if misfit(t, priority) {
+        Some(Reason::WrongPriority)
+    } else {
+        None
     }
-    if misfit(t, p) { 8 } else { 0 }
 }
 
-// The refusal 7, 8 or 6 that the numbers get, or 0.
-pub(crate) fn wrong(q: u32, t: &[u32], v: [u32; 3]) -> u32
-    requires { (length t.now ≡ size) × ((q ≡ 3) → get_or v 2 0 ≤ prio_most) }
-    ensures { result ≡ (rule (mark_no q) t.now).wrong v }
+// The refusal 7, 8 or 6 that the numbers get.
+#[tactic(auto, unfolding(meaning::specs::Text::ModelReader::rule, meaning::specs::Text::ModelText::form))]
+pub(crate) fn wrong(mark: Mark, t: &[u32], v: &[u32]) -> Option<Reason>
+    requires many { length v.now ≡ length (form (kind_of mark)).below }
+    requires priority { mark ≡ Mark.Task → get_or v.now 2 0 ≤ prio_most }
+    ensures { number_in result ≡ (rule (kind_of mark) t.now).wrong v.now }
 {
-    match q {
-        3 => wrong_task(t, v[0], v[1], v[2]),
-        7 => { if v[0] == v[1] { 6 } else { 0 } }
-        _ => 0,
+    match mark {
+        Mark::Task => wrong_task(t, v[0], v[1], v[2]),
+        Mark::Bound if v[0] == v[1] => Some(Reason::NotRising),
+        _ => None,
     }
 }
 
 // The slot that the numbers go to.
-pub(crate) fn slot(q: u32, t: &[u32], v: [u32; 3]) -> usize
-    requires { (length t.now ≡ size) × ((k : ℕ) → get_or v k 0 ≤ too_large) }
-    ensures { result ≡ (rule (mark_no q) t.now).slot v }
+#[tactic(auto, unfolding(meaning::specs::Text::ModelReader::rule, meaning::specs::Text::ModelText::form))]
+pub(crate) fn slot(mark: Mark, t: &[u32], v: &[u32]) -> usize
+    requires many { length v.now ≡ length (form (kind_of mark)).below }
+    requires small { (k : ℕ) → get_or v.now k 0 ≤ too_large }
+    ensures { result ≡ (rule (kind_of mark) t.now).slot v.now }
 {
-    match q {
-        2 => 1,
-        3 => 2 + 3 * tables::tasks(t),
-        4 => 20 + 5 * tables::locations(t),
-        5 => tables::last_location(t) + (v[0] as usize),
-        6 => 100 + 31 * tables::edges(t),
-        7 => tables::last_edge(t) + 2 + 5 * (v[0] as usize) + (v[1] as usize),
-        8 => tables::last_edge(t) + 26 + (v[0] as usize),
-        _ => 0,
+    match mark {
+        Mark::Policy | Mark::End => 0,
+        Mark::Clocks => 1,
+        Mark::Task => FIRST_TASK + 3 * tasks(t) as usize,
+        Mark::Location => FIRST_LOCATION + 5 * locations(t) as usize,
+        Mark::Limit => last_location(t) + v[0] as usize,
+        Mark::Edge => FIRST_EDGE + 31 * edges(t) as usize,
+        Mark::Bound => last_edge(t) + 2 + 5 * v[0] as usize + v[1] as usize,
+        Mark::Reset => last_edge(t) + 26 + v[0] as usize,
     }
 }

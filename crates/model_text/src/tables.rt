@@ -1,92 +1,49 @@
-// What a table has: whether a record is there, and how many tasks, locations and edges.
+// What a table has: whether a record is there, what a cell holds, and where the last location and the last edge stand.
 // Assumes nothing.
-ghost use Rattle.std.specs.Prelude.{◌≡◌, ◌+◌, ◌*◌, ◌<◌, ◌≤◌, length, get_or};
-ghost use Rattle.meaning.specs.Text.Choice.{pick};
-ghost use Rattle.meaning.specs.Text.Ranges.{tasks_most, locations_most, edges_most};
-ghost use Rattle.meaning.specs.Text.ModelTable as table;
-ghost use Rattle.meaning.specs.Text.ModelTable.{size, there, count};
+ghost use Rattle.std.specs.Prelude.{◌≡◌, ◌-◌, ◌≤◌, get_or};
+ghost use Rattle.meaning.specs.Text.ModelTable.{there};
 ghost use Rattle.meaning.specs.Text.ModelReader.{location, edge};
+
+use model_table::{cell, edges, less_one, locations};
 
 // Its full size.
 pub const SIZE: usize = 1092;
 
+// The slots of the first task, the first location and the first edge.
+pub const FIRST_TASK: usize = 2;
+
+pub const FIRST_LOCATION: usize = 20;
+
+pub const FIRST_EDGE: usize = 100;
+
 // Whether something is in cell k.
 pub(crate) fn is_there(t: &[u32], k: usize) -> bool
-    requires { k < length t.now }
     ensures { result ≡ there t.now k }
 {
-    0 < t[k]
+    0 < cell(t, k)
 }
 
-fn one_if(t: &[u32], k: usize) -> usize
-    requires { k < length t.now }
-    ensures { (result ≡ pick (there t.now k) 1 0) × (result ≤ 1) }
+// The number that a cell holds.
+pub(crate) fn number_in(t: &[u32], k: usize) -> u32
+    ensures { result ≡ get_or t.now k 0 - 1 }
 {
-    if 0 < t[k] { 1 } else { 0 }
-}
-
-// How many of the n cells from `at` on, each `step` after the one before, have something in them.
-fn count_from(t: &[u32], at: usize, step: usize, n: usize) -> usize
-    requires { (length t.now ≡ size) × (at + step * n ≤ size) × (0 < step) }
-    ensures { result ≡ count t.now at step n }
-{
-    let mut c: usize = 0;
-    let mut k: usize = 0;
-    let mut p = at;
-    while k < n {
-        c += one_if(t, p);
-        p += step;
-        k += 1;
-    }
-    c
-}
-
-// How many clocks.
-pub(crate) fn clocks(t: &[u32]) -> u32
-    requires { length t.now ≡ size }
-    ensures { result ≡ table.clocks t.now }
-{
-    if 0 < t[1] { t[1] - 1 } else { 0 }
-}
-
-// How many tasks.
-pub(crate) fn tasks(t: &[u32]) -> usize
-    requires { length t.now ≡ size }
-    ensures { (result ≡ table.tasks t.now) × (result ≤ tasks_most) }
-{
-    count_from(t, 2, 3, 6)
-}
-
-// How many locations.
-pub(crate) fn locations(t: &[u32]) -> usize
-    requires { length t.now ≡ size }
-    ensures { (result ≡ table.locations t.now) × (result ≤ locations_most) }
-{
-    count_from(t, 20, 5, 16)
-}
-
-// How many edges.
-pub(crate) fn edges(t: &[u32]) -> usize
-    requires { length t.now ≡ size }
-    ensures { (result ≡ table.edges t.now) × (result ≤ edges_most) }
-{
-    count_from(t, 100, 31, 32)
+    less_one(cell(t, k))
 }
 
 // The slot of the location that was read last.
+#[tactic(auto, using(meaning::proofs::Text::ModelLaws::locations_le))]
 pub(crate) fn last_location(t: &[u32]) -> usize
-    requires { length t.now ≡ size }
-    ensures { (result ≡ location t.now) × (result ≤ 95) }
+    ensures slot { result ≡ location t.now }
+    ensures within { result ≤ 95 }
 {
-    let n = locations(t);
-    if n == 0 { 20 } else { 20 + 5 * (n - 1) }
+    FIRST_LOCATION + 5 * less_one(locations(t)) as usize
 }
 
 // The slot of the edge that was read last.
+#[tactic(auto, using(meaning::proofs::Text::ModelLaws::edges_le))]
 pub(crate) fn last_edge(t: &[u32]) -> usize
-    requires { length t.now ≡ size }
-    ensures { (result ≡ edge t.now) × (result ≤ 1061) }
+    ensures slot { result ≡ edge t.now }
+    ensures within { result ≤ 1061 }
 {
-    let n = edges(t);
-    if n == 0 { 100 } else { 100 + 31 * (n - 1) }
+    FIRST_EDGE + 31 * less_one(edges(t)) as usize
 }

@@ -1,13 +1,13 @@
 -- Laws of the state of a moved valuation: its cells, one after the other, and that it is the state after the step.
 -- Assumes nothing.
 use mathlib.Core.Path.{◌≡◌, refl, sym, ◌∙◌, ap, ap₂, subst}
-use mathlib.Core.List.{List, [], ◌∷◌, map}
+use mathlib.Core.List.{List, [], ◌∷◌, ◌++◌, map}
 use Prim.Native.Nat.{ℕ, zero, suc, ◌+◌, ◌-◌, ◌≤◌, ◌<◌}
 use native.Mathlib.Omega.{arith}
-use native.Mathlib.Decide.{ℕ_discrete, dec_lt}
+use native.Mathlib.Decide.{dec_lt}
 use lib.IntN.{ℤ}
-use lib.ListN.{length, get_or, set, take, length-set, length-map, get_or-eq_default}
-use lib.Seq.{get_or-set_same, get_or-set_other, get_or-take, length-take-le}
+use lib.ListN.{length, get_or, take, replicate, length-map, length-take, get_or-append, get_or-eq_default}
+use lib.Seq.{get_or-take, length-take-le}
 use Rattle.meaning.specs.Numbers.{over, under}
 use Rattle.meaning.specs.Model.{Model}
 use Rattle.meaning.specs.Machine.State as M
@@ -28,6 +28,10 @@ use Rattle.meaning.proofs.Exact.Ranges.{from_in, off_size}
 use Rattle.meaning.proofs.Exact.Reached.{moved_shown, moved_leads, shown_lies, source_room}
 use Rattle.bounds.specs.Matrix.{ent, Size}
 use Rattle.bounds.specs.Images.{var}
+use Rattle.bounds.proofs.Store.{zeros}
+use Rattle.std.proofs.Common.{drop, length-drop, length-append}
+use Rattle.std.proofs.lemmas.Grind.{get_or_after_one}
+use Rattle.std.proofs.lemmas.List.{get_or-drop, get_or-append_right}
 use Rattle.machine.specs.Stands.{cell_of, no_job, padded, cells_of, held}
 use Rattle.machine.specs.declared.Job.{Job}
 use Rattle.machine.proofs.Arrays.{padded_is}
@@ -37,52 +41,22 @@ use Rattle.step_reach.specs.Plans.{Planned}
 use Rattle.step_reach.proofs.ReplyLaws.{variables_few, head_small}
 use Rattle.shown.specs.Moving.{Movable, Moved, Rising, cell_at}
 
--- ---- an array of n cells that is written from the first cell on
-
--- the first k of c cells have f, and d stands behind them
-pub record Begun {A : Type 0} (d : A) (n c : ℕ) (f : ℕ → A) (r : List A) (k : ℕ) : Type 0 where
-  pub long : length r ≡ n
-  pub upto : k ≤ c
-  pub cells : (i : ℕ) → i < k → get_or r i d ≡ f i
-  pub rest : (i : ℕ) → k ≤ i → get_or r i d ≡ d
-
-module _ {A : Type 0} (d : A) (n c : ℕ) (f : ℕ → A) where
-  pub begun_start : (r : List A) → length r ≡ n → ((i : ℕ) → get_or r i d ≡ d) → Begun d n c f r 0
-  begun_start r e h = record { long = e; upto = omega arith; cells = λ i b. absurd (omega arith); rest = λ i b. h i }
-
-  pub begun_more : (r : List A) (k : ℕ) (x : A) → Begun d n c f r k → c ≤ n → k < c → x ≡ f k → Begun d n c f (set r k x) (k + 1)
-  begun_more r k x w l h e = record {
-    long = length-set r k x ∙ w.long;
-    upto = omega arith;
-    cells = λ i b. go i b (ℕ_discrete i k);
-    rest = λ i b. get_or-set_other r k i x d (omega arith) ∙ w.rest i (omega arith);
-  }
-    where
-      go : (i : ℕ) → i < k + 1 → Dec (i ≡ k) → get_or (set r k x) i d ≡ f i
-      go i b (yes q) =
-          let z = w.long in
-          subst (λ (j : ℕ). get_or (set r k x) j d ≡ f j) (sym q) (get_or-set_same r k x d (omega arith) ∙ e)
-      go i b (no q) = get_or-set_other r k i x d q ∙ w.cells i (omega arith)
-
-  -- all c are written: the array holds a list of them
-  pub begun_end : (r : List A) (k : ℕ) (l : List A) → Begun d n c f r k → c ≤ k → length l ≡ c → ((i : ℕ) → i < c → f i ≡ get_or l i d) → r ≡ padded d n l
-  begun_end r k l w h e g = padded_is d n r l w.long (λ i b. go i (dec_lt i c))
-    where
-      go : (i : ℕ) → Dec (i < c) → get_or r i d ≡ get_or l i d
-      go i (yes b) = w.cells i (omega arith) ∙ g i b
-      go i (no b) = let u = w.upto in w.rest i (omega arith) ∙ sym (get_or-eq_default l d (omega arith))
-
-pub no_jobs : (n i : ℕ) → get_or (padded no_job n []) i no_job ≡ no_job
-no_jobs zero i = refl
-no_jobs (suc n) zero = refl
-no_jobs (suc n) (suc i) = no_jobs n i
-
 -- ---- the cells of a valuation
 
-pub clocks_end : (v : List ℕ) (n : ℕ) (r : List ℕ) (k : ℕ) → Begun 0 4 n (λ (i : ℕ). var v (i + 1)) r k → n ≤ k → r ≡ padded 0 4 (tab_from 1 (var v) n)
-clocks_end v n r k w h =
-    begun_end 0 4 n (λ (i : ℕ). var v (i + 1)) r k (tab_from 1 (var v) n) w h (length_tab 1 (var v) n)
-    (λ i b. let e : i + 1 ≡ 1 + i = omega arith in ap (var v) e ∙ sym (get_d_tab 1 (var v) n i 0 b))
+-- the clocks, copied into the first n of four cells
+pub clocks_end : (v : List ℕ) (n : ℕ) (w : List ℕ) → length v ≡ 17 → n ≤ 4 → w ≡ take (n + 1 - 1) (drop 1 v) → w ++ drop n (replicate 4 0) ≡ padded 0 4 (tab_from 1 (var v) n)
+clocks_end v n w e h q =
+    let long : length w ≡ n = ap length q ∙ simp (length-take, length-drop) (omega arith) in
+    padded_is 0 4 (w ++ drop n (replicate 4 0)) (tab_from 1 (var v) n) (simp (length-append, length-drop) (omega arith)) (λ k b. go long k (dec_lt k n))
+  where
+    go : length w ≡ n → (k : ℕ) → Dec (k < n) → get_or (w ++ drop n (replicate 4 0)) k 0 ≡ get_or (tab_from 1 (var v) n) k 0
+    go long k (yes b) =
+        let less : k < length w = omega arith in
+        let here : k < n + 1 - 1 = omega arith in
+        rw (get_or-append w (drop n (replicate 4 0)) 0 k less, q, get_or-take (n + 1 - 1) (drop 1 v) k 0 here) (get_or_after_one v k 0 ∙ sym (get_d_tab 1 (var v) n k 0 b))
+    go long k (no b) =
+        get_or-append_right w (drop n (replicate 4 0)) n k 0 long (omega arith) ∙ get_or-drop n (replicate 4 0) (k - n) 0 ∙ zeros 4 (n + (k - n))
+        ∙ sym (get_or-eq_default (tab_from 1 (var v) n) 0 (omega (arith, length_tab 1 (var v) n)))
 
 -- the running sum just ahead, one job on
 ahead_next : (v k : ℕ) → sum_ahead v (suc (suc v)) k ≡ v + (k + k)
@@ -104,15 +78,21 @@ pub length_jobs : (x : ℕ → ℕ) (a : ℕ) (ss : List Slot) → length (jobs_
 length_jobs x a [] = refl
 length_jobs x a (s ∷ ss) = ap suc (length_jobs x s.sum ss)
 
-pub jobs_end : (v : List ℕ) (n : ℕ) (tasks : List ℕ) (c : ℕ) (r : List Job) (k : ℕ) → length tasks ≡ 6 → c ≤ 6
-    → Begun no_job 6 c (λ (i : ℕ). cell_at v n (get_or tasks i 0) i) r k → c ≤ k → r ≡ cells_of (jobs_at (var v) 0 (slots (suc n) (take c tasks)))
-jobs_end v n tasks c r k e l w h =
-    let o = take c tasks in
-    let len = length-take-le c tasks (omega arith) in
-    let q = jobs_at (var v) 0 (slots (suc n) o) in
-    begun_end no_job 6 c (λ (i : ℕ). cell_at v n (get_or tasks i 0) i) r k (map cell_of q) w h
-    (length-map q cell_of ∙ length_jobs (var v) 0 (slots (suc n) o) ∙ length_slots (suc n) o ∙ len)
-    (λ i b. ap (λ (t : ℕ). cell_at v n t i) (sym (get_or-take c tasks i 0 b)) ∙ jobs_at_lem (var v) 0 (suc n) o i (omega arith))
+-- the jobs, put into the first of six cells
+module _ (v : List ℕ) (n : ℕ) (o : List ℕ) (few : length o ≤ 6) where
+  abbrev queued : List M.Job
+  queued = jobs_at (var v) 0 (slots (suc n) o)
+
+  many_queued : length (map cell_of queued) ≡ length o
+  many_queued = length-map queued cell_of ∙ length_jobs (var v) 0 (slots (suc n) o) ∙ length_slots (suc n) o
+
+  pub jobs_end : (r : List Job) → length r ≡ 6 → ((i : ℕ) → i < length o → get_or r i no_job ≡ cell_at v n (get_or o i 0) i)
+      → ((i : ℕ) → length o ≤ i → get_or r i no_job ≡ no_job) → r ≡ cells_of queued
+  jobs_end r long cells rest = padded_is no_job 6 r (map cell_of queued) long (λ i b. go i (dec_lt i (length o)))
+    where
+      go : (i : ℕ) → Dec (i < length o) → get_or r i no_job ≡ get_or (map cell_of queued) i no_job
+      go i (yes b) = cells i b ∙ jobs_at_lem (var v) 0 (suc n) o i b
+      go i (no b) = rest i (omega arith) ∙ sym (get_or-eq_default (map cell_of queued) no_job (omega (arith, many_queued)))
 
 -- running sums do not fall
 reads_rising : (x : ℕ → ℕ) (a v : ℕ) (o : List ℕ) (q : List M.Job) → Reads x a (slots v o) q → (k : ℕ) → k < length o → x (sum_ahead a v k) ≤ x (v + (k + k))
@@ -177,21 +157,18 @@ module _ (m : Model) (z : Zone) (st : Step) (rm : RangedModel m) (rz : RangedZon
         let l = shown_lies m z st t (moved_shown m z st rm rz (var x) s) in
         subst (λ (o : List ℕ). Agrees m o (var v) t) (sym (order_is m z st p q)) (agrees_cong (var v) value_is (lies_agrees m (home_at m z st) t l))
 
-    pub rising : (n : ℕ) → n ≡ m.clocks → length p.home.tasks ≡ 6 → Rising n p.home.count v
-    rising n e l = record {
-      each = λ k h.
-          let len = length-take-le p.home.count p.home.tasks (omega (arith, q.few)) in
-          rw e (reads_rising (var v) 0 (suc m.clocks) (order_of p.home) (moved_state m z st (var x)).queue agrees.queue k (omega arith));
-    }
+    pub rising : (n : ℕ) (o : List ℕ) → n ≡ m.clocks → o ≡ order_of p.home → Rising n (length o) v
+    rising n o e f =
+        rw (e, f) (record { each = λ k h. reads_rising (var v) 0 (suc m.clocks) (order_of p.home) (moved_state m z st (var x)).queue agrees.queue k h })
 
-    pub state_is : (n : ℕ) (cs : List ℕ) (js : List Job) → n ≡ m.clocks → length p.home.tasks ≡ 6 → cs ≡ padded 0 4 (tab_from 1 (var v) n)
-        → js ≡ cells_of (jobs_at (var v) 0 (slots (suc n) (take p.home.count p.home.tasks))) → record { location = p.home.location; clocks = cs; jobs = js; count = p.home.count } ≡ held (moved_state m z st (var x))
-    state_is n cs js e l a b =
+    pub state_is : (n : ℕ) (cs : List ℕ) (js : List Job) (o : List ℕ) → n ≡ m.clocks → o ≡ order_of p.home → length p.home.tasks ≡ 6 → cs ≡ padded 0 4 (tab_from 1 (var v) n)
+        → js ≡ cells_of (jobs_at (var v) 0 (slots (suc n) o)) → record { location = p.home.location; clocks = cs; jobs = js; count = p.home.count } ≡ held (moved_state m z st (var x))
+    state_is n cs js o e f l a b =
         let t = moved_state m z st (var x) in
-        let o = order_of p.home in
+        let h = order_of p.home in
         let ca : cs ≡ padded 0 4 (tab_from 1 (var v) m.clocks) = a ∙ ap (λ (k : ℕ). padded 0 4 (tab_from 1 (var v) k)) e in
-        let jb : js ≡ cells_of (jobs_at (var v) 0 (slots_of m o)) = b ∙ ap (λ (k : ℕ). cells_of (jobs_at (var v) 0 (slots (suc k) o))) e in
-        let n : p.home.count ≡ length (jobs_at (var v) 0 (slots_of m o)) =
-        sym (length_jobs (var v) 0 (slots_of m o) ∙ length_slots (suc m.clocks) o ∙ length-take-le p.home.count p.home.tasks (omega (arith, q.few))) in
+        let jb : js ≡ cells_of (jobs_at (var v) 0 (slots_of m h)) = b ∙ ap₂ (λ (k : ℕ) (l : List ℕ). cells_of (jobs_at (var v) 0 (slots (suc k) l))) e f in
+        let n : p.home.count ≡ length (jobs_at (var v) 0 (slots_of m h)) =
+        sym (length_jobs (var v) 0 (slots_of m h) ∙ length_slots (suc m.clocks) h ∙ length-take-le p.home.count p.home.tasks (omega (arith, q.few))) in
         (λ i. record { location = p.home.location; clocks = ca i; jobs = jb i; count = n i })
         ∙ ap held (sym (agrees_state agrees p.home.location (ap (λ (h : Home). h.location) (sym q.home))))

@@ -1,38 +1,20 @@
--- Laws of sums as the machine makes them: a value with a signed number added, and the bound between two variables as it stood before the step.
+-- Laws of the bound between two variables as it stood before the step, as the machine sums it up.
 -- Assumes nothing.
 use mathlib.Core.Path.{◌≡◌}
-use Prim.Native.Nat.{ℕ, ◌+◌, ◌≤◌}
+use Prim.Native.Nat.{◌+◌}
 use native.Mathlib.Omega.{arith}
-use lib.IntN.{ℤ, neg_ℤ, nat_abs, ◌+ℤ◌, ◌-ℤ◌}
+use lib.IntN.{ℤ, neg_ℤ, ◌-ℤ◌}
 use mir.Syntax.{w32}
-use mir.Val.{SFits, to_z}
-use mir.ValLaws.{to_z_pos}
+use mir.Val.{SFits}
 use Rattle.meaning.specs.Numbers.{over, under}
 use Rattle.meaning.specs.Inner.Words.{shift}
 use Rattle.meaning.proofs.Numbers.{shift_parts, over_neg, under_neg, parts_one}
 use Rattle.bounds.specs.Matrix.{Size}
-use Rattle.bounds.proofs.Signed.{rd, at, eq_read, sum_law, diff_law, fits_make, abs_law}
+use Rattle.bounds.proofs.Signed.{rd, at, diff_law, fits_make}
 use Rattle.zone_bounds.specs.Narrowed.{bound_size}
 
 pub small_fits : (c : ℤ) → Size c 100000 → SFits w32 c
 small_fits c s = fits_make (omega (arith, s.high)) (omega (arith, s.low))
-
--- ---- a value with a signed number added
-
-module _ (v : ℕ) (c : ℤ) (h : v ≤ 300000000) (s : Size c 100000) where
-  sum_is : over (to_z w32 v +ℤ rd c) + under c ≡ v + over c + under (to_z w32 v +ℤ rd c)
-  sum_is = omega (arith, at (small_fits c s), sum_law (to_z w32 v) (rd c), eq_read (to_z_pos w32 v (omega arith)))
-
-  pub moved_fits : SFits w32 (to_z w32 v +ℤ rd c)
-  moved_fits = fits_make (omega (arith, sum_is, s.high)) (omega (arith, sum_is, s.low))
-
-  -- it is not below 0, and cast to a natural it is what it was
-  module _ (r : under c ≤ v + over c) where
-    pub moved_sign : under (rd (to_z w32 v +ℤ rd c)) ≤ over (rd (to_z w32 v +ℤ rd c))
-    moved_sign = omega (arith, at moved_fits, sum_is)
-
-    pub moved_is : nat_abs (rd (to_z w32 v +ℤ rd c)) + under c ≡ v + over c
-    moved_is = omega (arith, abs_law (rd (to_z w32 v +ℤ rd c)) moved_sign, at moved_fits, sum_is)
 
 -- ---- the bound before the step
 

@@ -1,8 +1,9 @@
 -- The contracts of the smallest states determine their replies.
 -- Assumes nothing.
 use mathlib.Core.Path.{◌≡◌, refl, sym, ◌∙◌, ap}
-use mathlib.Core.Logic.{inl, inr}
-use Prim.Native.Nat.{ℕ, zero, suc, ◌<◌}
+use mathlib.Core.List.{List}
+use Rattle.std.specs.Prelude.{Option, None, Some}
+use Prim.Native.Nat.{ℕ, suc, ◌<◌}
 use native.Mathlib.Omega.{arith}
 use native.Mathlib.Decide.{dec_lt}
 use lib.IntN.{ℤ}
@@ -16,7 +17,6 @@ use Rattle.meaning.specs.Inner.Sources.{home_at, moved_state}
 use Rattle.meaning.proofs.Zones.Home.{below_same}
 use Rattle.meaning.proofs.Exact.Reached.{shown_lies}
 use Rattle.meaning.proofs.Exact.Smallest.{shown_least, apart_least}
-use Rattle.bounds.specs.declared.tightening.Tight.{Tight}
 use Rattle.machine.specs.declared.State.{State}
 use Rattle.machine.specs.Stands.{held}
 use Rattle.step_reach.specs.declared.plan.Plan.{Plan}
@@ -48,7 +48,7 @@ module _ (m : Model) (z : Zone) (st : Step) (rm : RangedModel m) (rz : RangedZon
       ∙ sym b.is
 
 -- any two states that the contract allows are one
-module _ (m : Model) (rm : RangedModel m) (t : Tight) (p : Plan) (r s : State) where
+module _ (m : Model) (rm : RangedModel m) (t : List ℤ) (p : Plan) (r s : State) where
   pub smallest_determined : DrawnBy m t p → ((z : Zone) (st : Step) → Drawn m z st t p → SmallestIs m z st r) → ((z : Zone) (st : Step) → Drawn m z st t p → SmallestIs m z st s) → r ≡ s
   smallest_determined d a b = smallest_once m d.zone d.step rm d.drawn.ranged r s (a d.zone d.step d.drawn) (b d.zone d.step d.drawn)
 
@@ -59,13 +59,13 @@ module _ (m : Model) (rm : RangedModel m) (t : Tight) (p : Plan) (r s : State) w
       apart_once m d.zone d.step rm d.drawn.ranged r s i j c (omega arith) (omega arith) (a d.zone d.step d.drawn) (b d.zone d.step d.drawn)
 
 -- and so is the first late position
-pub first_late_once : (m : Model) (z : Zone) (st : Step) (r s : ℕ) → FirstLate m z st r → FirstLate m z st s → r ≡ s
-first_late_once m z st zero zero a b = refl
-first_late_once m z st zero (suc k) a b = absurd (let x = b.here k refl in a.before k (omega (arith, b.few)) (inl refl) x.0 x.1 x.2)
-first_late_once m z st (suc k) zero a b = absurd (let x = a.here k refl in b.before k (omega (arith, a.few)) (inl refl) x.0 x.1 x.2)
-first_late_once m z st (suc i) (suc j) a b = go (dec_lt i j) (dec_lt j i)
+pub first_late_once : (m : Model) (z : Zone) (st : Step) (r s : Option ℕ) → FirstLate m z st r → FirstLate m z st s → r ≡ s
+first_late_once m z st None None a b = refl
+first_late_once m z st None (Some s) a b = absurd (a b.k b.few b.here)
+first_late_once m z st (Some r) None a b = absurd (b a.k a.few a.here)
+first_late_once m z st (Some r) (Some s) a b = ap Some (a.is ∙ ap suc (go (dec_lt a.k b.k) (dec_lt b.k a.k)) ∙ sym b.is)
   where
-    go : Dec (i < j) → Dec (j < i) → suc i ≡ suc j
-    go (yes l) w = absurd (let x = a.here i refl in b.before i (omega (arith, a.few)) (inr (omega arith)) x.0 x.1 x.2)
-    go (no l) (yes w) = absurd (let x = b.here j refl in a.before j (omega (arith, b.few)) (inr (omega arith)) x.0 x.1 x.2)
+    go : Dec (a.k < b.k) → Dec (b.k < a.k) → a.k ≡ b.k
+    go (yes l) w = absurd (b.before a.k l a.here)
+    go (no l) (yes w) = absurd (a.before b.k w b.here)
     go (no l) (no w) = omega arith

@@ -1,11 +1,10 @@
 // The state of a valuation, moved by a plan.
-ghost use Rattle.std.specs.Prelude.{◌≡◌, suc, ◌+◌, ◌≤◌, ◌<◌, take};
+ghost use Rattle.std.specs.Prelude.{◌≡◌, suc, ◌+◌, ◌≤◌, ◌<◌, length};
 ghost use Rattle.meaning.specs.Numbers.{over, under};
 ghost use Rattle.meaning.specs.Zones.Zone.{Zone};
 ghost use Rattle.meaning.specs.Zones.Steps.{Step};
 ghost use Rattle.meaning.specs.Zones.Reached.{home_of_zone};
-ghost use Rattle.model_table.specs.Right.{RightTable};
-ghost use Rattle.meaning.specs.Text.ModelTable.{decode};
+ghost use Rattle.model_table.specs.Held.{model_of};
 ghost use Rattle.meaning.specs.Inner.Words.{tab_from};
 ghost use Rattle.meaning.specs.Inner.Slots.{slots, sum_ahead, jobs_at, RangedZone};
 ghost use Rattle.meaning.specs.Inner.Sources.{Source, moved_state};
@@ -15,9 +14,10 @@ ghost use Rattle.machine.specs.Stands.{padded, cells_of, held};
 ghost use Rattle.step_reach.specs.Plans.{Planned};
 ghost use Rattle.shown.specs.Moving.{Movable, Moved, Rising, cell_at, ShownBy};
 
-use home::{Tasks, sum_ahead, sum_at};
-use machine::{Job, State};
-use model_table::clocks;
+use bounds::{Offsets, Sources, Values};
+use home::{sum_ahead, sum_at};
+use machine::{Job, Jobs, State};
+use model_table::{ModelTable, clocks};
 use step_reach::Plan;
 
 // One value, moved: what is added may be below 0, the value after it is not.
@@ -32,36 +32,29 @@ fn moved_value(value: u32, added: i32) -> u32
 }
 
 // The values of the first n variables after the step; 0 behind them.
-fn moved(n: usize, from: [usize; 17], off: [i32; 17], x: [u32; 17]) -> [u32; 17]
+fn moved(n: usize, from: Sources, off: Offsets, x: Values) -> Values
     requires { Movable n from off x }
     ensures { Moved n from off x result }
 {
     let mut r = [0u32; 17];
-    let mut i = 0;
-    while i < n {
-        let place = from[i];
-        r[i] = moved_value(x[place], off[i]);
-        i += 1;
+    for i in 0..n {
+        r[i] = moved_value(x[from[i]], off[i]);
     }
     r
 }
 
 // The values of n clocks; 0 behind them.
-fn clocks_of(v: [u32; 17], n: usize) -> [u32; 4]
+fn clocks_of(v: Values, n: usize) -> [u32; 4]
     requires { n ≤ 4 }
     ensures { result ≡ padded 0 4 (tab_from 1 (var v) n) }
 {
     let mut r = [0u32; 4];
-    let mut k = 0;
-    while k < n {
-        r[k] = v[k + 1];
-        k += 1;
-    }
+    r[..n].copy_from_slice(&v[1..=n]);
     r
 }
 
 // The job of a task behind k others: what is done is its running sum less the one just ahead.
-fn job_at(v: [u32; 17], n: usize, task: u32, k: usize) -> Job
+fn job_at(v: Values, n: usize, task: u32, k: usize) -> Job
     requires n_bound { (n ≤ 4) × (k < 6) }
     requires k_bound { var v (sum_ahead 0 (suc n) k) ≤ var v (suc n + (k + k)) }
     ensures { result ≡ cell_at v n task k }
@@ -73,46 +66,38 @@ fn job_at(v: [u32; 17], n: usize, task: u32, k: usize) -> Job
     Job { task, done, age }
 }
 
-// The jobs of a queue of these tasks, behind n clocks.
-fn jobs_of(v: [u32; 17], n: usize, tasks: Tasks, count: usize) -> [Job; 6]
-    requires n_bound { (n ≤ 4) × (count ≤ 6) }
-    requires rising { Rising n count v }
-    ensures { result ≡ cells_of (jobs_at (var v) 0 (slots (suc n) (take count tasks))) }
+// The jobs of a queue order, behind n clocks.
+fn jobs_of(v: Values, n: usize, order: &[u32]) -> Jobs
+    requires n_bound { (n ≤ 4) × (length order.now ≤ 6) }
+    requires rising { Rising n (length order.now) v }
+    ensures { result ≡ cells_of (jobs_at (var v) 0 (slots (suc n) order.now)) }
 {
     let mut r = [Job {
         task: 0,
         done: 0,
         age: 0,
     }; 6];
-    let mut k = 0;
-    while k < count {
-        r[k] = job_at(v, n, tasks[k], k);
-        k += 1;
+    for (k, &task) in order.iter().enumerate() {
+        r[k] = job_at(v, n, task, k);
     }
     r
 }
 
 // The state after the step of the valuation x from before it.
-pub(crate) fn shown_state(model: &[u32], plan: Plan, x: [u32; 17]) -> State
-    requires right_table { RightTable model.now }
-    requires shown_by { ShownBy (decode model.now) plan x }
-    ensures { (z : Zone) (st : Step) → RangedZone (decode model.now) z → Planned (decode model.now) (home_of_zone z) st plan → Source (decode model.now) z st (var x) → result ≡ held (moved_state (decode model.now) z st (var x)) }
+#[tactic(auto, using(zone_bounds::proofs::LoopLaws::clocks_small))]
+pub(crate) fn shown_state(model: &ModelTable, plan: Plan, x: Values) -> State
+    requires { ShownBy (model_of model.now) plan x }
+    ensures { (z : Zone) (st : Step) → RangedZone (model_of model.now) z → Planned (model_of model.now) (home_of_zone z) st plan → Source (model_of model.now) z st (var x) → result ≡ held (moved_state (model_of model.now) z st (var x)) }
 {
     let after = plan.home;
-    let location = after.location;
-    let tasks = after.tasks;
-    let count = after.count;
-    let variables = plan.variables;
-    let from = plan.from;
-    let off = plan.off;
-    let n = clocks(model) as usize;
-    let v = moved(variables, from, off, x);
+    let n = clocks(model.cells) as usize;
+    let v = moved(plan.variables, plan.from, plan.off, x);
     let values = clocks_of(v, n);
-    let jobs = jobs_of(v, n, tasks, count as usize);
+    let jobs = jobs_of(v, n, after.order());
     State {
-        location,
+        location: after.location,
         clocks: values,
         jobs,
-        count,
+        count: after.count,
     }
 }

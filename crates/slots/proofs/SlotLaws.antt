@@ -1,25 +1,27 @@
 -- Laws of the slots of a queue by value.
 -- Assumes nothing.
 use Prim.Native.Nat.{ℕ, zero, suc, ◌+◌, ◌-◌, ◌≤◌, ◌<◌}
-use mathlib.Core.Path.{◌≡◌, refl, sym, ◌∙◌, ap, ap₂, subst}
-use mathlib.Core.List.{List, [], ◌∷◌, map, tail}
+use mathlib.Core.Path.{◌≡◌, refl, sym, ◌∙◌, ap, subst}
+use mathlib.Core.List.{List, [], ◌∷◌, ◌++◌, map, tail}
 use native.Mathlib.Omega.{arith}
-use native.Mathlib.Decide.{dec_lt}
+use native.Mathlib.Decide.{dec_lt, ℕ_discrete}
 use native.Mathlib.Numerals.{add-one}
-use lib.ListN.{length, get_or, take, set, replicate, length-set}
-use lib.Seq.{ext_get_or, get_or-take, length-take-le, take-take}
+use lib.ListN.{length, get_or, take, drop, set, replicate, length-set, get_or-map, get_or-eq_default}
+use lib.Seq.{ext_get_or, get_or-take, length-take-le, get_or-set_same, get_or-set_other}
+use Rattle.std.proofs.lemmas.List.{length-map}
+use Rattle.std.specs.Coded.{le_prop}
 use Rattle.meaning.specs.Lists.{insert_at}
 use Rattle.meaning.specs.Model.{Model}
-use Rattle.meaning.specs.Text.Ranges.{queue_most, variables_most}
+use Rattle.meaning.specs.Text.Ranges.{variables_most}
 use Rattle.meaning.specs.Inner.Slots.{Slot, slot, slots_of, slot_at, tasks_in}
 use Rattle.meaning.specs.Inner.Places.{insert_slot, insert_slots}
 use Rattle.meaning.proofs.Lists.{map_insert_at, length_insert_at}
 use Rattle.meaning.proofs.Exact.Valuations.{length_slots}
 use Rattle.meaning.proofs.Exact.Loops.{get_d_slots}
 use Rattle.meaning.proofs.Exact.Ranges.{length_insert_slot}
-use Rattle.home.proofs.OrderLaws.{zeros, stored, beyond}
+use Rattle.slots.specs.declared.standing.Slot as Cell
 use Rattle.slots.specs.declared.standing.Slots.{Slots}
-use Rattle.slots.specs.Stands.{no_slot, slot_in, sum_before, Stand}
+use Rattle.slots.specs.Stands.{no_slot, no_cell, slot_of, slot_in, sum_before, Stand}
 
 -- ---- releases one after the other
 
@@ -45,141 +47,75 @@ tasks_insert zero a t ss = refl
 tasks_insert (suc p) a t [] = refl
 tasks_insert (suc p) a t (s ∷ ss) = ap (λ (l : List ℕ). s.task ∷ l) (tasks_insert p s.sum t ss)
 
--- ---- slots by their three lists
+-- ---- the cells
 
--- its task
-abbrev task_is : Slot → ℕ
-task_is s = s.task
+-- the cells of the queue are the slots
+cells_are : (ss : List Slot) (s : Slots) → Stand ss s → length s.slots ≡ 6 → map slot_of (take s.count s.slots) ≡ ss
+cells_are ss s w l =
+    let n = length-take-le s.count s.slots (omega (arith, w.few)) in
+    let m = length-map (take s.count s.slots) slot_of in
+    ext_get_or no_slot (map slot_of (take s.count s.slots)) ss (omega (arith, w.many))
+    (λ k h. get_or-map slot_of (take s.count s.slots) k no_cell ∙ ap slot_of (get_or-take s.count s.slots k no_cell (omega arith)) ∙ sym (w.each k (omega arith)))
 
--- the variable of its running sum
-abbrev sum_is : Slot → ℕ
-sum_is s = s.sum
-
--- the variable of its age
-abbrev age_is : Slot → ℕ
-age_is s = s.age
-
--- the tasks are one of the three
-tasks_map : (ss : List Slot) → tasks_in ss ≡ map task_is ss
+tasks_map : (ss : List Slot) → tasks_in ss ≡ map (λ (s : Slot). s.task) ss
 tasks_map [] = refl
 tasks_map (s ∷ ss) = ap (λ (l : List ℕ). s.task ∷ l) (tasks_map ss)
 
--- each is as long as the slots
-length_of : (f : Slot → ℕ) (ss : List Slot) → length (map f ss) ≡ length ss
-length_of f [] = refl
-length_of f (s ∷ ss) = ap suc (length_of f ss)
-
--- and goes cell by cell
-get_d_of : (f : Slot → ℕ) (ss : List Slot) (k : ℕ) → get_or (map f ss) k (f no_slot) ≡ f (get_or ss k no_slot)
-get_d_of f [] k = refl
-get_d_of f (s ∷ ss) zero = refl
-get_d_of f (s ∷ ss) (suc k) = get_d_of f ss k
-
--- an array whose first n cells are f of the slots
-cells_of : (f : Slot → ℕ) (ss : List Slot) (l : List ℕ) (n : ℕ) → n ≤ length l → length ss ≡ n
-    → ((k : ℕ) → k < n → get_or l k (f no_slot) ≡ f (get_or ss k no_slot)) → take n l ≡ map f ss
-cells_of f ss l n h e all =
-    let a = length-take-le n l h in
-    let b = length_of f ss in
-    ext_get_or (f no_slot) (take n l) (map f ss) (omega arith) (λ k g. get_or-take n l k (f no_slot) (omega arith) ∙ all k (omega arith) ∙ sym (get_d_of f ss k))
-
--- and back
-of_cells : (f : Slot → ℕ) (ss : List Slot) (l : List ℕ) (n k : ℕ) → take n l ≡ map f ss → k < n → f (get_or ss k no_slot) ≡ get_or l k (f no_slot)
-of_cells f ss l n k e h = sym (get_d_of f ss k) ∙ ap (λ (x : List ℕ). get_or x k (f no_slot)) (sym e) ∙ get_or-take n l k (f no_slot) h
-
--- a slot by its three parts
-slot_by : (s : Slot) {t a b : ℕ} → s.task ≡ t → s.sum ≡ a → s.age ≡ b → s ≡ slot t a b
-slot_by s {t} {a} {b} e f g = ap₂ (λ (x y : ℕ). slot x y s.age) e f ∙ ap (λ (z : ℕ). slot t a z) g
-
--- the slots ss stand in these arrays
-stand_make : (ss : List Slot) (s : Slots) → length ss ≡ s.count → s.count ≤ queue_most
-    → take s.count s.tasks ≡ map task_is ss → take s.count s.sums ≡ map sum_is ss → take s.count s.ages ≡ map age_is ss
-    → ((k : ℕ) → get_or s.sums k 0 < variables_most) → ((k : ℕ) → get_or s.ages k 0 < variables_most)
-    → ((k : ℕ) → s.count ≤ k → slot_in s k ≡ no_slot) → Stand ss s
-stand_make ss s n f t a b p q u = record {
-  many = n;
-  few = f;
-  each = λ k h.
-      slot_by (get_or ss k no_slot) (of_cells task_is ss s.tasks s.count k t h) (of_cells sum_is ss s.sums s.count k a h)
-      (of_cells age_is ss s.ages s.count k b h);
-  known = λ k. (p k, q k);
-  unused = u;
-}
-
-module _ (ss : List Slot) (s : Slots) (w : Stand ss s) where
-  -- what stands in an array is what the slots have
-  tasks_of : length s.tasks ≡ 6 → take s.count s.tasks ≡ map task_is ss
-  tasks_of l = cells_of task_is ss s.tasks s.count (omega (arith, w.few)) w.many (λ k h. ap task_is (sym (w.each k h)))
-
-  sums_of : length s.sums ≡ 6 → take s.count s.sums ≡ map sum_is ss
-  sums_of l = cells_of sum_is ss s.sums s.count (omega (arith, w.few)) w.many (λ k h. ap sum_is (sym (w.each k h)))
-
-  ages_of : length s.ages ≡ 6 → take s.count s.ages ≡ map age_is ss
-  ages_of l = cells_of age_is ss s.ages s.count (omega (arith, w.few)) w.many (λ k h. ap age_is (sym (w.each k h)))
-
 -- the tasks of the slots
-pub stand_tasks : (ss : List Slot) (s : Slots) → Stand ss s → length s.tasks ≡ 6 → take s.count s.tasks ≡ tasks_in ss
-stand_tasks ss s w l = tasks_of ss s w l ∙ sym (tasks_map ss)
+pub stand_tasks : (ss : List Slot) (s : Slots) (ts : List ℕ) → Stand ss s → length ts ≡ 6 → ((k : ℕ) → get_or ts k 0 ≡ (slot_in s k).task) → take s.count ts ≡ tasks_in ss
+stand_tasks ss s ts w l e =
+    let n = length-take-le s.count ts (omega (arith, w.few)) in
+    let m = length-map ss (λ (x : Slot). x.task) in
+    ext_get_or 0 (take s.count ts) (map (λ (x : Slot). x.task) ss) (omega (arith, w.many))
+    (λ k h. get_or-take s.count ts k 0 (omega arith) ∙ e k ∙ ap (λ (x : Slot). x.task) (sym (w.each k (omega arith))) ∙ sym (get_or-map (λ (x : Slot). x.task) ss k no_slot))
+    ∙ sym (tasks_map ss)
 
 -- ---- a queue order
 
--- the array r is filled up to k with what f tells
-pub record Filled (f : ℕ → ℕ) (r : List ℕ) (k : ℕ) : Type 0 where
-  pub long : length r ≡ 6
-  pub done : (q : ℕ) → q < k → get_or r q 0 ≡ f q
-  pub rest : (q : ℕ) → k ≤ q → get_or r q 0 ≡ 0
+-- the first k cells keep the slots of the queue order o, from variable v on, and those behind them nothing
+pub record Filled (v : ℕ) (o : List ℕ) (l : List Cell.Slot) (k : ℕ) : Type 0 where
+  pub long : length l ≡ 6
+  pub done : (q : ℕ) → q < k → slot_of (get_or l q no_cell) ≡ slot_at v o q
+  pub rest : (q : ℕ) → k ≤ q → slot_of (get_or l q no_cell) ≡ no_slot
+
+none_left : (n k : ℕ) → get_or (replicate n no_cell) k no_cell ≡ no_cell
+none_left zero k = refl
+none_left (suc n) zero = refl
+none_left (suc n) (suc k) = none_left n k
 
 -- nothing is filled yet
-pub filled_start : (f : ℕ → ℕ) → Filled f (replicate 6 0) 0
-filled_start f = record { long = refl; done = λ q h. absurd (omega arith); rest = λ q h. zeros 6 q }
+pub filled_start : (v : ℕ) (o : List ℕ) → Filled v o (replicate 6 no_cell) 0
+filled_start v o = record { long = refl; done = λ q h. absurd (omega arith); rest = λ q h. ap slot_of (none_left 6 q) }
 
 -- one cell more
-pub filled_more : (f : ℕ → ℕ) (r : List ℕ) (k v : ℕ) → Filled f r k → k < 6 → v ≡ f k → Filled f (set r k v) (k + 1)
-filled_more f r k v w h e = record {
-  long = length-set r k v ∙ w.long;
-  done = stored f r k v (omega (arith, w.long)) w.done e;
-  rest = beyond r k v w.rest;
+pub filled_more : (v : ℕ) (o : List ℕ) (l : List Cell.Slot) (k : ℕ) (c : Cell.Slot) → Filled v o l k → k < 6 → slot_of c ≡ slot_at v o k → Filled v o (set l k c) (k + 1)
+filled_more v o l k c w h e = record {
+  long = length-set l k c ∙ w.long;
+  done = λ q g. go q g (ℕ_discrete q k);
+  rest = λ q g. ap slot_of (get_or-set_other l k q c no_cell (omega arith)) ∙ w.rest q (omega arith);
 }
-
--- up to where it should
-pub filled_all : (f : ℕ → ℕ) (r : List ℕ) {k n : ℕ} → Filled f r k → k ≡ n → Filled f r n
-filled_all f r w e = subst (Filled f r) e w
+  where
+    go : (q : ℕ) → q < k + 1 → Dec (q ≡ k) → slot_of (get_or (set l k c) q no_cell) ≡ slot_at v o q
+    go q g (yes d) = rw d (ap slot_of (get_or-set_same l k c no_cell (omega (arith, w.long))) ∙ e)
+    go q g (no d) = ap slot_of (get_or-set_other l k q c no_cell d) ∙ w.done q (omega arith)
 
 -- variables that there are
-filled_small : (f : ℕ → ℕ) (r : List ℕ) (n : ℕ) → Filled f r n → ((k : ℕ) → k < n → f k < variables_most) → (k : ℕ) → get_or r k 0 < variables_most
-filled_small f r n w h k = go (dec_lt k n)
+known_by : (s t : Slot) → s ≡ t → (t.sum < variables_most) × (t.age < variables_most) → (s.sum < variables_most) × (s.age < variables_most)
+known_by s t e h = rw e h
+
+-- cells that are filled are the slots of the queue order
+pub stand_order : (m : Model) (o : List ℕ) (s : Slots) → m.clocks ≤ 4 → length o ≡ s.count → s.count ≤ 6 → Filled (suc m.clocks) o s.slots s.count → Stand (slots_of m o) s
+stand_order m o s c n h w = record {
+  many = length_slots (suc m.clocks) o ∙ n;
+  few = h;
+  each = λ k g. get_d_slots (suc m.clocks) o k no_slot (omega arith) ∙ sym (w.done k g);
+  known = λ k. go k (dec_lt k s.count);
+  unused = w.rest;
+}
   where
-    go : Dec (k < n) → get_or r k 0 < variables_most
-    go (yes l) = omega (arith, w.done k l, h k l)
-    go (no l) = omega (arith, w.rest k (omega arith))
-
--- the variable of the running sum behind k others, of so many clocks
-abbrev pub sum_from : ℕ → ℕ → ℕ
-sum_from c k = suc c + (k + k)
-
--- and that of the age
-abbrev pub age_from : ℕ → ℕ → ℕ
-age_from c k = suc (suc c + (k + k))
-
--- arrays that are filled with them are the slots of the queue order
-pub stand_order : (m : Model) (q : List ℕ) (n : ℕ) (ts sums ages : List ℕ) → m.clocks ≤ 4 → n ≤ 6 → length q ≡ 6
-    → Filled (λ (k : ℕ). get_or q k 0) ts n → Filled (sum_from m.clocks) sums n → Filled (age_from m.clocks) ages n
-    → Stand (slots_of m (take n q)) (record { tasks = ts; sums = sums; ages = ages; count = n })
-stand_order m q n ts sums ages c h l a b d =
-    let len = length-take-le n q (omega arith) in
-    let v = suc m.clocks in
-    record {
-      many = length_slots v (take n q) ∙ len;
-      few = h;
-      each = λ k g.
-          get_d_slots v (take n q) k no_slot (omega arith)
-          ∙ slot_by (slot_at v (take n q) k) (get_or-take n q k 0 g ∙ sym (a.done k g)) (sym (b.done k g)) (sym (d.done k g));
-      known = λ k. (
-        filled_small (sum_from m.clocks) sums n b (λ i g. omega arith) k,
-        filled_small (age_from m.clocks) ages n d (λ i g. omega arith) k,
-      );
-      unused = λ k g. slot_by (slot (get_or ts k 0) (get_or sums k 0) (get_or ages k 0)) (a.rest k g) (b.rest k g) (d.rest k g);
-    }
+    go : (k : ℕ) → Dec (k < s.count) → ((slot_in s k).sum < variables_most) × ((slot_in s k).age < variables_most)
+    go k (yes g) = known_by (slot_in s k) (slot_at (suc m.clocks) o k) (w.done k g) (omega arith, omega arith)
+    go k (no g) = known_by (slot_in s k) no_slot (w.rest k (omega arith)) (omega arith, omega arith)
 
 -- ---- a new job
 
@@ -202,74 +138,66 @@ over_is zero a (s ∷ ss) h = refl
 over_is (suc p) a (s ∷ ss) h = over_is p s.sum ss (omega arith)
 
 -- as it stands in the array
-sum_over_lem : (ss : List Slot) (s : Slots) → Stand ss s → (p : ℕ) → p ≤ s.count → sum_over 0 p ss ≡ sum_before s.sums p
+sum_over_lem : (ss : List Slot) (s : Slots) → Stand ss s → (p : ℕ) → p ≤ s.count → sum_over 0 p ss ≡ sum_before s p
 sum_over_lem ss s w zero h = refl
-sum_over_lem ss s w (suc p) h = over_is p 0 ss (omega (arith, w.many)) ∙ ap sum_is (w.each p (omega arith))
+sum_over_lem ss s w (suc p) h = over_is p 0 ss (omega (arith, w.many)) ∙ ap (λ (x : Slot). x.sum) (w.each p (omega arith))
 
--- r is the array l with x behind p of its n, and 0 behind them
-abbrev pub PutIn : ℕ → ℕ → ℕ → List ℕ → List ℕ → Type 0
-PutIn p x n l r = (take (suc n) r ≡ insert_at p x (take n l)) × ((k : ℕ) → suc n ≤ k → get_or r k 0 ≡ 0)
+-- ---- what holds of every cell
 
--- a variable that there is stays one
-take_small : (n : ℕ) (l : List ℕ) → ((k : ℕ) → get_or l k 0 < variables_most) → (k : ℕ) → get_or (take n l) k 0 < variables_most
-take_small zero l h k = omega arith
-take_small (suc n) [] h k = omega arith
-take_small (suc n) (x ∷ l) h zero = h 0
-take_small (suc n) (x ∷ l) h (suc k) = take_small n l (λ i. h (suc i)) k
+module _ {A : Type 0} (P : A → Type 0) (d : A) (none : P d) where
+  take_each : (n : ℕ) (l : List A) → ((k : ℕ) → P (get_or l k d)) → (k : ℕ) → P (get_or (take n l) k d)
+  take_each zero l h k = none
+  take_each (suc n) [] h k = none
+  take_each (suc n) (x ∷ l) h zero = h 0
+  take_each (suc n) (x ∷ l) h (suc k) = take_each n l (λ i. h (suc i)) k
 
--- with a new one among them
-insert_small : (p x : ℕ) (l : List ℕ) → x < variables_most → ((k : ℕ) → get_or l k 0 < variables_most) → (k : ℕ) → get_or (insert_at p x l) k 0 < variables_most
-insert_small zero x l h all zero = h
-insert_small zero x l h all (suc k) = all k
-insert_small (suc p) x [] h all zero = h
-insert_small (suc p) x [] h all (suc k) = omega arith
-insert_small (suc p) x (y ∷ l) h all zero = all 0
-insert_small (suc p) x (y ∷ l) h all (suc k) = insert_small p x l h (λ i. all (suc i)) k
+  insert_each : (p : ℕ) (x : A) (l : List A) → P x → ((k : ℕ) → P (get_or l k d)) → (k : ℕ) → P (get_or (insert_at p x l) k d)
+  insert_each zero x l h all zero = h
+  insert_each zero x l h all (suc k) = all k
+  insert_each (suc p) x [] h all zero = h
+  insert_each (suc p) x [] h all (suc k) = none
+  insert_each (suc p) x (y ∷ l) h all zero = all 0
+  insert_each (suc p) x (y ∷ l) h all (suc k) = insert_each p x l h (λ i. all (suc i)) k
 
--- and in the array
-put_small : (p x n : ℕ) (l r : List ℕ) → PutIn p x n l r → x < variables_most → ((k : ℕ) → get_or l k 0 < variables_most) → (k : ℕ) → get_or r k 0 < variables_most
-put_small p x n l r w h all k = go (dec_lt k (suc n))
-  where
-    go : Dec (k < suc n) → get_or r k 0 < variables_most
-    go (yes g) =
-        let e : get_or r k 0 ≡ get_or (insert_at p x (take n l)) k 0 = sym (get_or-take (suc n) r k 0 g) ∙ ap (λ (y : List ℕ). get_or y k 0) w.0 in
-        let i = insert_small p x (take n l) h (take_small n l all) k in
-        omega arith
-    go (no g) = omega (arith, w.1 k (omega arith))
+-- nothing stands behind a list, where nothing is filled in behind it
+padded_is : {A : Type 0} (l : List A) (n : ℕ) (d : A) (k : ℕ) → get_or (l ++ replicate n d) k d ≡ get_or l k d
+padded_is [] zero d k = refl
+padded_is [] (suc n) d zero = refl
+padded_is [] (suc n) d (suc k) = padded_is [] n d k
+padded_is (x ∷ l) n d zero = refl
+padded_is (x ∷ l) n d (suc k) = padded_is l n d k
 
--- the array has the slots with the new one
-put_of : (f : Slot → ℕ) (p : ℕ) (x : Slot) (ss : List Slot) (n : ℕ) (l r : List ℕ) → PutIn p (f x) n l r → take n l ≡ map f ss
-    → take (suc n) r ≡ map f (insert_at p x ss)
-put_of f p x ss n l r w e = w.0 ∙ ap (insert_at p (f x)) e ∙ sym (map_insert_at f p x ss)
+-- ---- it is put in
 
 -- the variable just ahead is one that there is
-sum_small : (ss : List Slot) (s : Slots) → Stand ss s → (p : ℕ) → sum_before s.sums p < variables_most
+sum_small : (ss : List Slot) (s : Slots) → Stand ss s → (p : ℕ) → sum_before s p < variables_most
 sum_small ss s w zero = omega arith
 sum_small ss s w (suc p) = (w.known p).0
 
 -- "A new job gets the running sum of the job just ahead, or 0 as head, and age 0."
-pub stand_put : (s : Slots) (p t x : ℕ) (ts sums ages : List ℕ) → p ≤ s.count → s.count < 6
-    → length s.tasks ≡ 6 → length s.sums ≡ 6 → length s.ages ≡ 6 → x ≡ sum_before s.sums p
-    → PutIn p t s.count s.tasks ts → PutIn p x s.count s.sums sums → PutIn p 0 s.count s.ages ages
-    → (ss : List Slot) → Stand ss s → Stand (insert_slot p 0 t ss) (record { tasks = ts; sums = sums; ages = ages; count = s.count + 1 })
-stand_put s p t x ts sums ages h g a b c e i j k ss w =
-    let n = s.count in
-    let y : Slot = slot t x 0 in
-    let z : insert_slot p 0 t ss ≡ insert_at p y ss =
-    insert_is p 0 t ss ∙ ap (λ (v : ℕ). insert_at p (slot t v 0) ss) (sum_over_lem ss s w p h ∙ sym e) in
-    let one : suc n ≡ n + 1 = omega arith in
+pub stand_put : (s r : Slots) (p t x : ℕ) → p ≤ s.count → s.count < 6 → length s.slots ≡ 6 → x ≡ sum_before s p
+    → r.slots ≡ insert_at p (record { task = t; sum = x; age = 0 }) (take s.count s.slots) ++ replicate (6 - suc s.count) no_cell → r.count ≡ s.count + 1
+    → (ss : List Slot) → Stand ss s → Stand (insert_slot p 0 t ss) r
+stand_put s r p t x h g l e i j ss w =
+    let new : Cell.Slot = record { task = t; sum = x; age = 0 } in
+    let o = insert_at p new (take s.count s.slots) in
+    let n = length-take-le s.count s.slots (omega arith) in
+    let m = length_insert_at p new (take s.count s.slots) in
+    let cell : (k : ℕ) → slot_in r k ≡ slot_of (get_or o k no_cell) =
+    λ k. ap (λ (z : List Cell.Slot). slot_of (get_or z k no_cell)) i ∙ ap slot_of (padded_is o (6 - suc s.count) no_cell k) in
+    let is : insert_slot p 0 t ss ≡ map slot_of o =
+    insert_is p 0 t ss ∙ ap (λ (v : ℕ). insert_at p (slot t v 0) ss) (sum_over_lem ss s w p h ∙ sym e)
+    ∙ ap (insert_at p (slot t x 0)) (sym (cells_are ss s w l)) ∙ sym (map_insert_at slot_of p new (take s.count s.slots)) in
     let low : x < variables_most = omega (arith, sum_small ss s w p) in
-    let made : Stand (insert_at p y ss) (record { tasks = ts; sums = sums; ages = ages; count = suc n }) =
-    stand_make (insert_at p y ss) (record { tasks = ts; sums = sums; ages = ages; count = suc n })
-    (length_insert_at p y ss ∙ ap suc w.many) (omega arith)
-    (put_of task_is p y ss n s.tasks ts i (tasks_of ss s w a))
-    (put_of sum_is p y ss n s.sums sums j (sums_of ss s w b))
-    (put_of age_is p y ss n s.ages ages k (ages_of ss s w c))
-    (put_small p x n s.sums sums j low (λ q. (w.known q).0))
-    (put_small p 0 n s.ages ages k (omega arith) (λ q. (w.known q).1))
-    (λ q f. slot_by (slot (get_or ts q 0) (get_or sums q 0) (get_or ages q 0)) (i.1 q f) (j.1 q f) (k.1 q f)) in
-    subst (λ (l : List Slot). Stand l (record { tasks = ts; sums = sums; ages = ages; count = s.count + 1 })) (sym z)
-    (subst (λ (v : ℕ). Stand (insert_at p y ss) (record { tasks = ts; sums = sums; ages = ages; count = v })) one made)
+    let Known : Cell.Slot → Type 0 = λ c. (c.sum < variables_most) × (c.age < variables_most) in
+    record {
+      many = length_insert_slot t p 0 ss ∙ omega (arith, w.many);
+      few = omega arith;
+      each = λ k f. ap (λ (z : List Slot). get_or z k no_slot) is ∙ get_or-map slot_of o k no_cell ∙ sym (cell k);
+      known = λ k. known_by (slot_in r k) (slot_of (get_or o k no_cell)) (cell k)
+          (insert_each Known no_cell (omega arith, omega arith) p new (take s.count s.slots) (low, omega arith) (take_each Known no_cell (omega arith, omega arith) s.count s.slots w.known) k);
+      unused = λ k f. cell k ∙ ap slot_of (get_or-eq_default o no_cell (omega arith));
+    }
 
 -- ---- the head gone
 
@@ -283,22 +211,22 @@ length_tail : (ss : List Slot) → length (tail ss) ≡ length ss - 1
 length_tail [] = refl
 length_tail (s ∷ ss) = omega arith
 
--- each cell of r is the next of l
-abbrev pub Moved : List ℕ → List ℕ → Type 0
-Moved l r = (k : ℕ) → get_or r k 0 ≡ get_or l (suc k) 0
+moved_is : {A : Type 0} (l : List A) (d : A) (k : ℕ) → get_or (drop 1 l ++ d ∷ []) k d ≡ get_or l (suc k) d
+moved_is [] d zero = refl
+moved_is [] d (suc k) = refl
+moved_is (x ∷ l) d k = padded_is l 1 d k
 
--- arrays that moved up are the slots without the head
-pub stand_tail : (s : Slots) (ts sums ages : List ℕ) (n : ℕ) → n ≡ s.count - 1 → Moved s.tasks ts → Moved s.sums sums → Moved s.ages ages
-    → (ss : List Slot) → Stand ss s → Stand (tail ss) (record { tasks = ts; sums = sums; ages = ages; count = n })
-stand_tail s ts sums ages n e a b c ss w =
-    let here : (k : ℕ) → slot_in s (suc k) ≡ slot (get_or ts k 0) (get_or sums k 0) (get_or ages k 0) =
-    λ k. slot_by (slot_in s (suc k)) (sym (a k)) (sym (b k)) (sym (c k)) in
+-- cells that moved up are the slots without the head
+pub stand_tail : (s r : Slots) → r.slots ≡ drop 1 s.slots ++ no_cell ∷ [] → r.count ≡ s.count - 1 → (ss : List Slot) → Stand ss s → Stand (tail ss) r
+stand_tail s r i j ss w =
+    let cell : (k : ℕ) → slot_in r k ≡ slot_in s (suc k) =
+    λ k. ap (λ (z : List Cell.Slot). slot_of (get_or z k no_cell)) i ∙ ap slot_of (moved_is s.slots no_cell k) in
     record {
       many = omega (arith, length_tail ss, w.many);
       few = omega (arith, w.few);
-      each = λ k h. get_d_tail ss k ∙ w.each (suc k) (omega arith) ∙ here k;
-      known = λ k. (omega (arith, b k, (w.known (suc k)).0), omega (arith, c k, (w.known (suc k)).1));
-      unused = λ k h. sym (here k) ∙ w.unused (suc k) (omega arith);
+      each = λ k h. get_d_tail ss k ∙ w.each (suc k) (omega arith) ∙ sym (cell k);
+      known = λ k. known_by (slot_in r k) (slot_in s (suc k)) (cell k) (w.known (suc k));
+      unused = λ k h. cell k ∙ w.unused (suc k) (omega arith);
     }
 
 -- ---- releases
@@ -310,10 +238,6 @@ After ts ps ss k = insert_slots (take k ts) (take k ps) ss
 -- a loop that puts them in began at the slots s and stands at r
 pub record Came (ts ps : List ℕ) (k : ℕ) (s r : Slots) : Type 0 where
   pub stand : (ss : List Slot) → Stand ss s → Stand (After ts ps ss k) r
-
--- none yet
-pub came_start : (ts ps : List ℕ) (s : Slots) → Came ts ps 0 s s
-came_start ts ps s = record { stand = λ ss w. w }
 
 module _ (ts ps : List ℕ) (k : ℕ) (s r : Slots) (w : Came ts ps k s r) where
   -- so many jobs are queued
@@ -332,15 +256,15 @@ module _ (ts ps : List ℕ) (k : ℕ) (s r : Slots) (w : Came ts ps k s r) where
         subst (λ (l : List Slot). Stand l u) (sym (ap (After ts ps ss) (add-one k) ∙ insert_step ts ps ss k h g)) (f (After ts ps ss k) (w.stand ss a));
   }
 
-  -- of a longer list of releases
-  pub came_all : (n : ℕ) → k ≤ n → (ss : List Slot) → Stand ss s → Stand (insert_slots (take k (take n ts)) (take k ps) ss) r
-  came_all n h ss a = subst (λ (l : List ℕ). Stand (insert_slots l (take k ps) ss) r) (sym (take-take k n ts h)) (w.stand ss a)
-
 -- how many jobs a queue order has
 pub order_many : (m : Model) (q : List ℕ) (n : ℕ) (s : Slots) → n ≤ 6 → length q ≡ 6 → Stand (slots_of m (take n q)) s → s.count ≡ n
 order_many m q n s h l w = sym w.many ∙ length_slots (suc m.clocks) (take n q) ∙ length-take-le n q (omega arith)
 
 -- ---- one `Slots` for the slots
+
+-- a cell is told by its slot
+cell_once : (c d : Cell.Slot) → slot_of c ≡ slot_of d → c ≡ d
+cell_once c d e = ap (λ (s : Slot). record { task = s.task; sum = s.sum; age = s.age }) e
 
 -- two that stand for the same slots have the same cells
 same_cells : (ss : List Slot) (r s : Slots) → Stand ss r → Stand ss s → (k : ℕ) → slot_in r k ≡ slot_in s k
@@ -350,13 +274,13 @@ same_cells ss r s a b k = go (dec_lt k r.count)
     go (yes h) = sym (a.each k h) ∙ b.each k (omega (arith, a.many, b.many))
     go (no h) = a.unused k (omega arith) ∙ sym (b.unused k (omega (arith, a.many, b.many)))
 
+same_count : (p : List Cell.Slot) (m n : ℕ) (a : m ≤ 6) (b : n ≤ 6) → m ≡ n → ◌≡◌ {A = Slots} (record { slots = p; count = m; few = a }) (record { slots = p; count = n; few = b })
+same_count p m n a b e =
+    let F : ℕ → Type 0 = λ k. (c : k ≤ 6) → ◌≡◌ {A = Slots} (record { slots = p; count = m; few = a }) (record { slots = p; count = k; few = c }) in
+    subst F e (λ c. ap (λ (h : m ≤ 6). record { slots = p; count = m; few = h }) (le_prop a c)) b
+
 -- an array by value has its length
-pub stand_once : (ss : List Slot) (r s : Slots) → Stand ss r → Stand ss s
-    → length r.tasks ≡ 6 → length s.tasks ≡ 6 → length r.sums ≡ 6 → length s.sums ≡ 6 → length r.ages ≡ 6 → length s.ages ≡ 6 → r ≡ s
-stand_once ss r s a b t u v w x y =
-    let k = same_cells ss r s a b in
-    let i : r.tasks ≡ s.tasks = ext_get_or 0 r.tasks s.tasks (t ∙ sym u) (λ q h. ap task_is (k q)) in
-    let j : r.sums ≡ s.sums = ext_get_or 0 r.sums s.sums (v ∙ sym w) (λ q h. ap sum_is (k q)) in
-    let l : r.ages ≡ s.ages = ext_get_or 0 r.ages s.ages (x ∙ sym y) (λ q h. ap age_is (k q)) in
-    ap₂ (λ (p q : List ℕ). record { tasks = p; sums = q; ages = r.ages; count = r.count }) i j
-    ∙ ap₂ (λ (p : List ℕ) (q : ℕ). record { tasks = s.tasks; sums = s.sums; ages = p; count = q }) l (sym a.many ∙ b.many)
+pub stand_once : (ss : List Slot) (r s : Slots) → Stand ss r → Stand ss s → length r.slots ≡ 6 → length s.slots ≡ 6 → r ≡ s
+stand_once ss r s a b t u =
+    let e = ext_get_or no_cell r.slots s.slots (t ∙ sym u) (λ k h. cell_once (get_or r.slots k no_cell) (get_or s.slots k no_cell) (same_cells ss r s a b k)) in
+    ap (λ (p : List Cell.Slot). record { slots = p; count = r.count; few = r.few }) e ∙ same_count s.slots r.count s.count r.few s.few (sym a.many ∙ b.many)

@@ -2,9 +2,9 @@
 #![tactic(auto)]
 
 mod change;
+mod order;
 mod standing;
-mod variables;
 
 pub use change::{slots_with, without_head};
-pub use standing::{Slots, slots_of};
-pub use variables::{Variables, sum_before};
+pub use order::slots_of;
+pub use standing::{Slot, Slots};

@@ -1,46 +1,60 @@
 // The slots of a queue by value.
-ghost use Rattle.std.specs.Prelude.{◌≤◌};
-ghost use Rattle.meaning.specs.Inner.Slots.{slots_of};
-ghost use Rattle.meaning.specs.Text.ModelTable.{decode};
-ghost use Rattle.model_table.specs.Right.{RightTable};
-ghost use Rattle.home.specs.Stands.{order_of};
-ghost use Rattle.slots.specs.Stands.{Stand};
+ghost use Rattle.std.specs.Prelude.{◌≡◌, ℕ, ◌≤◌, ◌<◌, get_or};
 
-use crate::variables::Variables;
-use home::Home;
+use home::Tasks;
 
-// For each position of a queue: its task, the variable of its running sum, and that of its age.
-#[derive(Clone, Copy)]
-pub struct Slots {
-    pub tasks: [u32; 6],
-    pub sums: Variables,
-    pub ages: Variables,
-    pub count: usize,
+// Where a job stands: its task, the variable of its running sum, and that of its age.
+#[derive(Clone, Copy, Debug, PartialEq, Eq)]
+pub struct Slot {
+    pub task: u32,
+    pub sum: usize,
+    pub age: usize,
 }
 
-// The slots of a queue order.
-pub fn slots_of(model: &[u32], home: Home) -> Slots
-    requires right_table { RightTable model.now }
-    requires count_bound { home.count ≤ 6 }
-    ensures { Stand (slots_of (decode model.now) (order_of home)) result }
-{
-    let clocks = model_table::clocks(model) as usize;
-    let queue = home.tasks;
-    let count = home.count as usize;
-    let mut tasks = [0u32; 6];
-    let mut sums = [0usize; 6];
-    let mut ages = [0usize; 6];
-    let mut k = 0;
-    while k < count {
-        tasks[k] = queue[k];
-        sums[k] = home::sum_at(clocks, k);
-        ages[k] = home::sum_at(clocks, k) + 1;
-        k += 1;
+impl Slot {
+    // No job stands there.
+    pub const NONE: Slot = Slot {
+        task: 0,
+        sum: 0,
+        age: 0,
+    };
+}
+
+// The slots of a queue, head first; behind them none.
+#[derive(Clone, Copy)]
+pub struct Slots {
+    pub slots: [Slot; 6],
+    pub count: usize,
+    ghost few: { count ≤ 6 },
+}
+
+impl Slots {
+    ghost use Rattle.slots.specs.Stands.{slot_of, slot_in, sum_before};
+
+    // The slot behind so many others.
+    pub fn slot(&self, k: usize) -> Slot
+        requires { k < 6 }
+        ensures { slot_of result ≡ slot_in self.now k }
+    {
+        self.slots[k]
     }
-    Slots {
-        tasks,
-        sums,
-        ages,
-        count,
+
+    // The task at each position, and 0 behind the queue.
+    pub fn tasks(&self) -> Tasks
+        ensures { (k : ℕ) → get_or result k 0 ≡ (slot_in self.now k).task }
+    {
+        self.slots.map(|slot| slot.task)
+    }
+
+    // The variable of the running sum just ahead of one behind so many others: 0 at the head.
+    pub fn sum_before(&self, ahead: usize) -> usize
+        requires { ahead ≤ 6 }
+        ensures { result ≡ sum_before self.now ahead }
+    {
+        if ahead == 0 {
+            0
+        } else {
+            self.slots[ahead - 1].sum
+        }
     }
 }

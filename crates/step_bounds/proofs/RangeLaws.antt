@@ -6,7 +6,9 @@ use mathlib.Core.List.{List, [], ◌∷◌}
 use mathlib.Core.Option.{some}
 use Prim.Native.Nat.{ℕ, zero, suc, ◌+◌, ◌-◌, ◌/◌, ◌%◌, ◌≤◌, ◌<◌}
 use native.Mathlib.Omega.{arith}
+use borrow.Author.Tests.{lt-ltb}
 use lib.Dec.{ltb}
+use lib.IntN.{ℤ}
 use lib.ListN.{length, get_or, get_elem?}
 use Rattle.meaning.specs.Lists.{nth1, nth1D}
 use Rattle.meaning.specs.Model.{Task, Limit, Bound, Location, Edge, Model, no_task, no_location, task_at, location_at}
@@ -19,6 +21,8 @@ use Rattle.meaning.proofs.Text.Collects.{each_mem, mem_collect}
 use Rattle.meaning.proofs.Text.Keyed.{each_map, each_nth}
 use Rattle.model_table.specs.Parts.{limit_in, bound_in, guard_of, edge_of}
 use Rattle.model_table.proofs.PartLaws.{limits_is, edge_is}
+use Rattle.bounds.specs.Matrix.{Size}
+use Rattle.zone_bounds.specs.Narrowed.{bound_size}
 
 -- ---- each of a list
 
@@ -77,16 +81,29 @@ module _ (m : Model) (w : RightModel m) where
 -- ---- the numbers of a right table
 
 module _ (t : List ℕ) (g : RightTable t) where
-  pub limit_small : (l x : ℕ) → x < 4 → ltb 0 (limit_in t l (1 + x)) ≡ true → limit_in t l (1 + x) - 1 ≤ 10000
+  limit_small : (l x : ℕ) → x < 4 → ltb 0 (limit_in t l (1 + x)) ≡ true → limit_in t l (1 + x) - 1 ≤ 10000
   limit_small l x h e =
       (collect_each (RightLimit (decode t).clocks) 4 (λ k. ltb 0 (limit_in t l (1 + k))) (λ k. record { clock = 1 + k; most = limit_in t l (1 + k) - 1 })
       (rw (limits_is t g l) (limits_each (decode t) g.right l)) x h e).most
 
+  -- a clock's limit, where it has one
+  pub limit_most : (l k most : ℕ) → 1 ≤ k → k < 5 → limit_in t l k ≡ suc most → most ≤ 10000
+  limit_most l k most a b e =
+      let o : k ≡ 1 + (k - 1) = omega arith in
+      let c : limit_in t l (1 + (k - 1)) ≡ suc most = rw o at e in
+      omega (arith, limit_small l (k - 1) (omega arith) (lt-ltb 0 (limit_in t l (1 + (k - 1))) (omega (arith, c))), c)
+
   guard_right : (n : ℕ) → 1 ≤ n → n ≤ edges t → Each (RightBound (decode t).clocks 10000) (guard_of t n)
   guard_right n a b = edge_guard (decode t) g.right n (edge_of t n) (edge_is t g n a b)
 
-  pub bound_right : (n x : ℕ) → 1 ≤ n → n ≤ edges t → x < 25 → ltb 0 (bound_in t n (x / 5) (x % 5)) ≡ true
+  bound_right : (n x : ℕ) → 1 ≤ n → n ≤ edges t → x < 25 → ltb 0 (bound_in t n (x / 5) (x % 5)) ≡ true
       → RightBound (decode t).clocks 10000 (record { i = x / 5; j = x % 5; c = lowered (bound_in t n (x / 5) (x % 5) - 1) })
   bound_right n x a b h e =
       collect_each (RightBound (decode t).clocks 10000) 25 (λ k. ltb 0 (bound_in t n (k / 5) (k % 5)))
       (λ k. record { i = k / 5; j = k % 5; c = lowered (bound_in t n (k / 5) (k % 5) - 1) }) (guard_right n a b) x h e
+
+  -- a bound of an edge's guard, where there is one
+  pub bound_sized : (n x : ℕ) (c : ℤ) → 1 ≤ n → n ≤ edges t → x < 25 → 0 < bound_in t n (x / 5) (x % 5) → c ≡ lowered (bound_in t n (x / 5) (x % 5) - 1) → Size c bound_size
+  bound_sized n x c a b h l e =
+      let r = bound_right n x a b h (lt-ltb 0 (bound_in t n (x / 5) (x % 5)) l) in
+      rw e (record { high = omega (arith, r.most); low = omega (arith, r.least) })

@@ -8,6 +8,7 @@ use mathlib.Core.Option.{Option, none, some}
 use Prim.Native.Nat.{ℕ, zero, suc, ◌+◌, ◌-◌, ◌≤◌, ◌<◌}
 use native.Mathlib.Omega.{arith}
 use native.Mathlib.Decide.{dec_le}
+use lib.IntN.{ℤ}
 use lib.ListN.{length, get_or, take, length-map}
 use lib.Seq.{length-take-le}
 use Rattle.meaning.specs.Lists.{nth1, same_list}
@@ -34,9 +35,9 @@ use Rattle.home.specs.Stands.{order_of, home_of, tasks_of, Lists, RightHome}
 use Rattle.zone_list.specs.Steps.{ahead_of, list_at}
 use Rattle.zone_list.specs.declared.form.Step as L
 use Rattle.zone_list.proofs.ListedLaws.{listed_edge}
-use Rattle.bounds.specs.declared.tightening.Tight.{Tight}
+use Rattle.std.specs.Prelude as Std
 use Rattle.zone_bounds.specs.Narrowed.{Narrows}
-use Rattle.zone_bounds.proofs.NarrowLaws.{narrows_then}
+use Rattle.zone_bounds.proofs.NarrowLaws.{narrows_then, narrows_stop}
 use Rattle.step_bounds.specs.Places.{PlacesIn, EdgeIn}
 
 -- ---- an edge that is in the list
@@ -138,9 +139,13 @@ module _ (t : List ℕ) (g : RightTable t) (home : M.Home) (k : ℕ) (step : L.S
   over_same b e = ap (λ (ts : List ℕ). overflows_any (decode t) ts (order_of home)) (sym ls.is) ∙ e
 
   -- an overflow: the guard alone
-  pub narrows_over : (a q : Tight) → overflows_any (decode t) (tasks_of r) (order_of home) ≡ true → Narrows (guard_of t k) a q
-      → Narrows (step_bounds (decode t) (home_of home) (by_edge k (ahead_of step))) a q
-  narrows_over a q e p = subst (λ (l : List Bound). Narrows l a q) (sym (over_bounds t g (home_of home) k (ahead_of step) leaving_step (over_same true e))) p
+  pub narrows_over : (a : List ℤ) (q : Std.Option (List ℤ)) → overflows_any (decode t) (tasks_of r) (order_of home) ≡ true → Narrows (guard_of t k) (Std.Some a) q
+      → Narrows (step_bounds (decode t) (home_of home) (by_edge k (ahead_of step))) (Std.Some a) q
+  narrows_over a q e p = subst (λ (l : List Bound). Narrows l (Std.Some a) q) (sym (over_bounds t g (home_of home) k (ahead_of step) leaving_step (over_same true e))) p
+
+  -- where the guard leaves none, either way
+  pub narrows_guard : (a : List ℤ) → Narrows (guard_of t k) (Std.Some a) Std.None → Narrows (step_bounds (decode t) (home_of home) (by_edge k (ahead_of step))) (Std.Some a) Std.None
+  narrows_guard a p = rw (edge_bounds_lem t g (home_of home) k (ahead_of step) leaving_step) (narrows_stop (guard_of t k) _ (Std.Some a) p)
 
   -- none: the places too
   module _ (e : overflows_any (decode t) (tasks_of r) (order_of home) ≡ false) (ahead : List ℕ) (six : length home.tasks ≡ 6) (four : length r.tasks ≡ 4)
@@ -172,8 +177,8 @@ module _ (t : List ℕ) (g : RightTable t) (home : M.Home) (k : ℕ) (step : L.S
           here = rw (same_ahead, sym ls.is) at (free_choice t g (home_of home) k (ahead_of step) leaving_step free);
         }
 
-    pub narrows_placed : (a q s : Tight) → Narrows (guard_of t k) a q → Narrows (position_bounds (decode t) (tasks_of r) (take r.count ahead) (slots_of (decode t) (order_of home))) q s
-        → Narrows (step_bounds (decode t) (home_of home) (by_edge k (ahead_of step))) a s
+    pub narrows_placed : (a q : List ℤ) (s : Std.Option (List ℤ)) → Narrows (guard_of t k) (Std.Some a) (Std.Some q) → Narrows (position_bounds (decode t) (tasks_of r) (take r.count ahead) (slots_of (decode t) (order_of home))) (Std.Some q) s
+        → Narrows (step_bounds (decode t) (home_of home) (by_edge k (ahead_of step))) (Std.Some a) s
     narrows_placed a q s p u =
-        subst (λ (l : List Bound). Narrows l a s) (sym (free_bounds t g (home_of home) k (ahead_of step) leaving_step free))
-        (narrows_then _ _ a q s p (rw (sym same_ahead, ls.is) at u))
+        subst (λ (l : List Bound). Narrows l (Std.Some a) s) (sym (free_bounds t g (home_of home) k (ahead_of step) leaving_step free))
+        (narrows_then _ _ (Std.Some a) (Std.Some q) s p (rw (sym same_ahead, ls.is) at u))

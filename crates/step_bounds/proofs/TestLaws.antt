@@ -1,17 +1,41 @@
 -- Laws of the tests of who beats whom: a few lines for each policy; and of the bounds of a test.
 -- Assumes nothing.
 use mathlib.Core.Path.{◌≡◌, refl, sym, subst}
+use mathlib.Core.List.{List, [], ◌∷◌}
 use Prim.Native.Nat.{ℕ, ◌+◌, ◌≤◌, ◌<◌}
 use native.Mathlib.Omega.{arith}
 use lib.IntN.{ℤ, sub_ℕ}
 use borrow.Author.Tests.{lt-ltb, le-ltb}
+use Rattle.std.specs.Prelude.{None, Some}
 use Rattle.meaning.specs.Model.{Policy, fps, edf, sjf, Model, task_at}
+use Rattle.meaning.specs.Inner.Bounds.{impossible}
+use Rattle.meaning.specs.Text.ModelText.{policy_number}
 use Rattle.meaning.specs.Inner.Slots.{slot}
 use Rattle.meaning.specs.Inner.Tests.{test_by, test_at}
+use Rattle.meaning.proofs.Exact.Bounds.{met_append}
+use Rattle.meaning.proofs.Text.Policies.{policy_sjf}
+use Rattle.zone_bounds.specs.Narrowed.{Narrows}
 use Rattle.zone_bounds.proofs.NumberLaws.{sub_sized}
 use Rattle.step_bounds.specs.Tests.{Asks}
 use Rattle.step_bounds.specs.declared.tests.Test.{Test}
 use Rattle.step_bounds.specs.declared.tests.Test.TheVariants.{Always, Never, AtMost}
+
+-- no valuation meets a bound that none meets
+pub narrows_impossible : (m : List ℤ) → Narrows (impossible ∷ []) (Some m) None
+narrows_impossible m = record {
+  usable = tt;
+  more = λ cs w x z h. let e = ((met_append x cs (impossible ∷ [])).0 h).1.0 in omega arith;
+}
+
+-- the policy's number
+pub policy_range : (p : Policy) → (1 ≤ policy_number p) × (policy_number p ≤ 3)
+unfolding policy_number
+policy_range fps = (omega arith, omega arith)
+policy_range edf = (omega arith, omega arith)
+policy_range sjf = (omega arith, omega arith)
+
+pub policy_third : (p : Policy) → policy_number p ≡ 3 → p ≡ sjf
+policy_third p e = policy_sjf p (λ q. absurd (omega arith)) (λ q. absurd (omega arith))
 
 module _ (m : Model) (new queued a s g : ℕ) where
   pub rank_yes : (task_at m queued).prio < (task_at m new).prio → Asks (test_by fps m new a (slot queued s g)) Always

@@ -7,7 +7,7 @@ use Rattle.meaning.specs.Machine.Place.{behind}
 use Rattle.meaning.specs.Zones.Steps.{by_edge, choices}
 use Rattle.meaning.specs.Zones.Reached as Z
 use Rattle.meaning.specs.Text.Ranges.{queue_most, releases_most}
-use Rattle.meaning.specs.Inner.Slots.{Slot, last_sum, slots_flat}
+use Rattle.meaning.specs.Inner.Slots.{Slot, tasks_in, last_sum, slots_flat}
 use Rattle.meaning.specs.Inner.Tests.{Test}
 use Rattle.meaning.specs.Inner.Places.{no_at}
 use Rattle.home.specs.declared.Home.{Home}
@@ -25,7 +25,7 @@ staying f first p ss = slots_flat (no_at f) (last_sum 0 (take first ss)) (drop f
 -- a new job of task t may have p of the slots ahead of it
 pub record PlaceIn (m : Model) (t p : ℕ) (s : Slots) : Type 0 where
   pub stands : Stands s
-  pub low : behind m t (take s.count s.tasks) ≤ p
+  pub low : behind m t (tasks_in stands.slots) ≤ p
   pub high : p ≤ s.count
 
 -- the releases may have so many jobs ahead of them, each as it comes in

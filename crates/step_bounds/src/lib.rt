@@ -6,6 +6,7 @@ mod head;
 mod limits;
 mod place;
 mod states;
+mod stepping;
 mod tests;
 
 pub use states::step_matrix;

@@ -1,16 +1,17 @@
 // Who beats whom, as a test of two variables. The policy is looked at here and nowhere else.
-ghost use Rattle.std.specs.Prelude.{ℕ, ◌<◌};
+ghost use Rattle.std.specs.Prelude.{ℕ, ◌<◌, Some};
 ghost use Rattle.meaning.specs.Model.{fps, edf, sjf};
-ghost use Rattle.meaning.specs.Text.ModelTable.{decode};
-ghost use Rattle.meaning.specs.Inner.Slots.{slot};
 ghost use Rattle.meaning.specs.Inner.Tests.{when_true, when_false, test_by, test_at};
-ghost use Rattle.model_table.specs.Right.{RightTable};
+ghost use Rattle.slots.specs.Stands.{slot_of};
 ghost use Rattle.zone_bounds.specs.Narrowed.{Workable, Narrows};
+ghost use Rattle.step_bounds.specs.Stepping.{model_of};
 ghost use Rattle.step_bounds.specs.Tests.{test_of, Askable, Asks};
 
-use bounds::Tight;
-use model_table::{deadline, policy, priority, work};
-use zone_bounds::{less, narrow, negated};
+use crate::stepping::Stepping;
+use bounds::Matrix;
+use model_table::{Policy, deadline, policy, priority, work};
+use slots::Slot;
+use zone_bounds::{less, negated, within};
 
 // It holds of every valuation, of none, or where the first variable minus the second is at most a number.
 #[derive(Clone, Copy)]
@@ -20,87 +21,78 @@ pub enum Test {
     AtMost(usize, usize, i32),
 }
 
-// "FPS: larger priority beats."
-fn rank_test(model: &[u32], new: u32, queued: u32) -> Test
-    requires { RightTable model.now }
-    ensures { (a s g : ℕ) → Asks (test_by fps (decode model.now) new a (slot queued s g)) result }
-{
-    if priority(model, queued) < priority(model, new) {
-        return Test::Always;
+impl Stepping<'_> {
+    // "FPS: larger priority beats."
+    fn rank_test(self, new: u32, queued: Slot) -> Test
+        ensures { (a : ℕ) → Asks (test_by fps (model_of self.entry) new a (slot_of queued)) result }
+    {
+        if priority(self.model.cells, queued.task) < priority(self.model.cells, new) {
+            Test::Always
+        } else {
+            Test::Never
+        }
     }
-    Test::Never
-}
 
-// "EDF: fewer ticks left to the deadline (D minus age) beats; at equality the larger task number beats."
-fn deadline_test(model: &[u32], new: u32, queued: u32, age: usize) -> Test
-    requires right_table { RightTable model.now }
-    requires age_bound { age < 17 }
-    ensures { (a s : ℕ) → Asks (test_by edf (decode model.now) new a (slot queued s age)) result }
-{
-    if queued < new {
-        return Test::AtMost(age, 0, less(deadline(model, queued), deadline(model, new)));
+    // "EDF: fewer ticks left to the deadline (D minus age) beats; at equality the larger task number beats."
+    fn deadline_test(self, new: u32, queued: Slot) -> Test
+        requires { queued.age < 17 }
+        ensures { (a : ℕ) → Asks (test_by edf (model_of self.entry) new a (slot_of queued)) result }
+    {
+        let own = deadline(self.model.cells, new);
+        let least = if queued.task < new { own } else { own + 1 };
+        let c = less(deadline(self.model.cells, queued.task), least);
+        Test::AtMost(queued.age, 0, c)
     }
-    Test::AtMost(
-        age,
-        0,
-        less(deadline(model, queued), deadline(model, new) + 1),
-    )
-}
 
-// SJF: "its computing time is less than what the queued job still owes, which is C minus done".
-fn work_test(model: &[u32], new: u32, queued: u32, ahead: usize, sum: usize) -> Test
-    requires right_table { RightTable model.now }
-    requires ahead_bound { (ahead < 17) × (sum < 17) }
-    ensures { (g : ℕ) → Asks (test_by sjf (decode model.now) new ahead (slot queued sum g)) result }
-{
-    Test::AtMost(sum, ahead, less(work(model, queued), work(model, new) + 1))
-}
+    // SJF: "its computing time is less than what the queued job still owes, which is C minus done".
+    fn work_test(self, new: u32, ahead: usize, queued: Slot) -> Test
+        requires { (ahead < 17) × (queued.sum < 17) }
+        ensures { Asks (test_by sjf (model_of self.entry) new ahead (slot_of queued)) result }
+    {
+        let c = less(
+            work(self.model.cells, queued.task),
+            work(self.model.cells, new) + 1,
+        );
+        Test::AtMost(queued.sum, ahead, c)
+    }
 
-// Does a new job of one task beat a queued job of another, whose running sum and age, and the running sum just ahead of it, are in these variables?
-pub(crate) fn test_of(
-    model: &[u32],
-    new: u32,
-    queued: u32,
-    ahead: usize,
-    sum: usize,
-    age: usize,
-) -> Test
-    requires right_table { RightTable model.now }
-    requires ahead_bound { (ahead < 17) × (sum < 17) × (age < 17) }
-    ensures { Asks (test_at (decode model.now) new ahead (slot queued sum age)) result }
-{
-    let number = policy(model);
-    if number == 1 {
-        return rank_test(model, new, queued);
+    // Does a new job of a task beat a queued job? The running sum just ahead of it is in the variable `ahead`.
+    pub(crate) fn test_of(self, new: u32, ahead: usize, queued: Slot) -> Test
+        requires { (ahead < 17) × (queued.sum < 17) × (queued.age < 17) }
+        ensures { Asks (test_at (model_of self.entry) new ahead (slot_of queued)) result }
+    {
+        match policy(self.model.cells) {
+            Some(Policy::FixedPriority) => self.rank_test(new, queued),
+            Some(Policy::EarliestDeadline) => self.deadline_test(new, queued),
+            Some(Policy::ShortestJob) => self.work_test(new, ahead, queued),
+            // a right table has one of the three
+            None => unreachable!(),
+        }
     }
-    if number == 2 {
-        return deadline_test(model, new, queued, age);
-    }
-    work_test(model, new, queued, ahead, sum)
 }
 
 // The states of which the test holds.
-pub(crate) fn hold(t: Tight, test: Test) -> Tight
+pub(crate) fn hold(m: Matrix, test: Test) -> Option<Matrix>
     requires askable { Askable test }
-    requires workable { Workable t }
-    ensures { Narrows (when_true (test_of test)) t result }
+    requires workable { Workable m }
+    ensures { Narrows (when_true (test_of test)) (Some m) result }
 {
     match test {
-        Test::Always => t,
-        Test::Never => narrow(t, 0, 0, -1),
-        Test::AtMost(i, j, c) => narrow(t, i, j, c),
+        Test::Always => Some(m),
+        Test::Never => None,
+        Test::AtMost(i, j, c) => within(m, i, j, c),
     }
 }
 
 // Those of which it does not.
-pub(crate) fn fail(t: Tight, test: Test) -> Tight
+pub(crate) fn fail(m: Matrix, test: Test) -> Option<Matrix>
     requires askable { Askable test }
-    requires workable { Workable t }
-    ensures { Narrows (when_false (test_of test)) t result }
+    requires workable { Workable m }
+    ensures { Narrows (when_false (test_of test)) (Some m) result }
 {
     match test {
-        Test::Always => narrow(t, 0, 0, -1),
-        Test::Never => t,
-        Test::AtMost(i, j, c) => narrow(t, j, i, negated(c)),
+        Test::Always => None,
+        Test::Never => Some(m),
+        Test::AtMost(i, j, c) => within(m, j, i, negated(c)),
     }
 }

@@ -79,12 +79,12 @@ plan_order m h (by_edge k ps) = by (nth1 m.edges k)
 -- ---- the tables
 
 module _ (t : List ℕ) (h : Home) (st : Step) (l edge : ℕ) (s : Slots) (time sum : ℤ) (w : LeadsTo t h st l edge s time sum) (own : Stand (slots_in s) s)
-    (six : length s.tasks ≡ 6) (n : ℕ) (f : List ℕ) (u : List ℤ) (many : n ≡ suc ((decode t).clocks + (s.count + s.count))) where
-  order_is : take s.count s.tasks ≡ (home_after (decode t) h st).order
-  order_is = stand_tasks (slots_in s) s own six ∙ ap (λ (p : M.Plan). tasks_in p.slots) w.plan ∙ plan_order (decode t) h st
+    (tasks : List ℕ) (six : length tasks ≡ 6) (is : (k : ℕ) → get_or tasks k 0 ≡ (slot_in s k).task) (n : ℕ) (f : List ℕ) (u : List ℤ) (many : n ≡ suc ((decode t).clocks + (s.count + s.count))) where
+  order_is : take s.count tasks ≡ (home_after (decode t) h st).order
+  order_is = stand_tasks (slots_in s) s tasks own six is ∙ ap (λ (p : M.Plan). tasks_in p.slots) w.plan ∙ plan_order (decode t) h st
 
-  long_is : length (take s.count s.tasks) ≡ s.count
-  long_is = ap length (stand_tasks (slots_in s) s own six) ∙ tasks_long (slots_in s) ∙ own.many
+  long_is : length (take s.count tasks) ≡ s.count
+  long_is = ap length (stand_tasks (slots_in s) s tasks own six is) ∙ tasks_long (slots_in s) ∙ own.many
     where
       tasks_long : (ss : List Slot) → length (tasks_in ss) ≡ length ss
       tasks_long [] = refl
@@ -92,11 +92,11 @@ module _ (t : List ℕ) (h : Home) (st : Step) (l edge : ℕ) (s : Slots) (time 
 
   pub planned : ((i : ℕ) → i < n → get_or f i 0 ≡ from (decode t) (plan_in t edge s (pos 0) (pos 0)) i) → ((i : ℕ) → n ≤ i → get_or f i 0 ≡ 0)
       → ((i : ℕ) → i < n → Adds (decode t).clocks time sum i (get_or u i (pos 0))) → ((i : ℕ) → n ≤ i → get_or u i (pos 0) ≡ pos 0)
-      → Planned (decode t) h st (record { home = record { location = l; tasks = s.tasks; count = s.count }; variables = n; from = f; off = u })
+      → Planned (decode t) h st (record { home = record { location = l; tasks = tasks; count = s.count }; variables = n; from = f; off = u })
   planned a b c d = record {
     home = ap₂ mk_home w.location order_is;
     few = own.few;
-    unused = λ k e. ap (λ (x : Slot). x.task) (own.unused k e);
+    unused = λ k e. is k ∙ ap (λ (x : Slot). x.task) (own.unused k e);
     many = omega (arith, long_is, many);
     from = λ i e. a i e ∙ ap (λ (p : M.Plan). from (decode t) p i) w.plan;
     off = λ i e. (c i e).is (decode t) (plan_in t edge s time sum) refl refl refl refl (omega (arith, own.many, many))

@@ -23,7 +23,7 @@ use Rattle.meaning.specs.Text.RightModel.{RightModel}
 use Rattle.meaning.specs.Inner.Slots.{RangedZone}
 use Rattle.meaning.specs.Inner.StepBounds.{RangedModel}
 use Rattle.meaning.specs.Inner.Sources.{source_bounds, Source, plan_at, home_at}
-use Rattle.meaning.specs.Inner.Smallest.{Solves}
+use Rattle.meaning.specs.Inner.Smallest.{NoneMeet}
 use Rattle.meaning.proofs.Tests.{never}
 use Rattle.meaning.specs.Inner.Plans as M
 use Rattle.meaning.proofs.Exact.Ranges.{from_in, off_size}
@@ -34,16 +34,18 @@ use Rattle.bounds.specs.Matrix.{ent, at, Finite, Stored, Size, Sol, Closed}
 use Rattle.bounds.specs.Images.{Image, Map, Maps}
 use Rattle.bounds.specs.Images as I
 use Rattle.bounds.specs.Results.{Remapped}
-use Rattle.bounds.specs.declared.tightening.Tight.{Tight}
 use Rattle.bounds.proofs.Points.{finite?, entry_tight, entry_unbounded}
 use Rattle.bounds.proofs.Store.{zeros_z}
 use Rattle.home.specs.Stands.{order_of}
 use Rattle.zone_bounds.specs.Entries.{is_bound}
-use Rattle.zone_bounds.specs.Narrowed.{Narrowed}
-use Rattle.step_bounds.proofs.RangeLaws.{task_times}
+use Rattle.zone_bounds.specs.Narrowed.{MatrixOf}
+use Rattle.step_bounds.proofs.RangeLaws.{task_times, right_ranged}
+use Rattle.zone.specs.declared.Zone.{Zone}
+use Rattle.zone.specs.Stands.{zone_of, Lendable}
+use Rattle.zone.proofs.LendableLaws.{lent_ranged}
 use Rattle.step_reach.specs.declared.plan.Plan.{Plan}
 use Rattle.step_reach.specs.Plans.{Planned}
-use Rattle.step_reach.specs.Replies.{as_entry, entry_at}
+use Rattle.step_reach.specs.Replies.{as_entry, entry_at, RightStep}
 
 -- ---- the size of a zone
 
@@ -101,33 +103,44 @@ zeros_entry i j = entry_zero (replicate 289 (pos 0)) i j (λ h k. zeros_z 289 (i
 
 -- ---- the step
 
-module _ (m : Model) (z : Z.Zone) (st : Step) (rm : RangedModel m) (rz : RangedZone m z) (few : variables m z.order ≤ 17) (t : Tight) (w : Narrowed (source_bounds m z st) t)
-    (p : Plan) (q : Planned m (home_of_zone z) st p) (after : variables m (order_of p.home) ≤ 17) where
+module _ (m : Model) (z : Z.Zone) (st : Step) (rm : RangedModel m) (rz : RangedZone m z) (few : variables m z.order ≤ 17) (p : Plan) (q : Planned m (home_of_zone z) st p)
+    (after : variables m (order_of p.home) ≤ 17) where
   pub order_is : order_of p.home ≡ (home_at m z st).order
   order_is = ap (λ (h : Home). h.order) q.home
 
   pub many_is : p.variables ≡ variables m (home_at m z st).order
   many_is = q.many ∙ ap (variables m) order_is
 
-  -- it is empty: no state is shown
-  pub reply_empty : t.empty ≡ true → (r : Reply) → r.home ≡ home_at m z st → r.empty ≡ true → ((i j : ℕ) → r.entry i j ≡ some (pos 0)) → RightReply m z st r
-  reply_empty e r h n f = record {
+  -- no state takes the step: none is shown
+  pub reply_empty : NoneMeet (source_bounds m z st) → (r : Reply) → r.home ≡ home_at m z st → r.empty ≡ true → ((i j : ℕ) → r.entry i j ≡ some (pos 0)) → RightReply m z st r
+  reply_empty w r h n f = record {
     home = h;
-    none_shown = λ _. none_shown m z st rm (source_none m z st (w.nothing e));
+    none_shown = λ _. none_shown m z st rm (source_none m z st w);
     zeros = λ _. f;
     tightest = λ u. absurd (never n u);
     beyond = λ u. absurd (never n u);
   }
 
-  module _ (e : t.empty ≡ false) where
-    pub solves : Solves (Sol (at t.m) 17) (source_bounds m z st)
-    solves = w.solves e
+  -- the image of a valuation, by the tables and by the plan
+  pub image : (x y : ℕ → ℕ) → ((i : ℕ) → i < variables m (home_at m z st).order → M.Shifted (M.off m (plan_at m z st) i) (x (M.from m (plan_at m z st) i)) (y i))
+      → Image p.variables (I.var p.from) (ent p.off) x y
+  image x y f a h =
+      subst (λ (c : ℤ). y a + under c ≡ x (I.var p.from a) + over c) (sym (q.off a h))
+      (subst (λ (k : ℕ). y a + under (M.off m (plan_at m z st) a) ≡ x k + over (M.off m (plan_at m z st) a)) (sym (q.from a h)) (f a (omega (arith, many_is))))
 
-    pub source : (x : ℕ → ℕ) → Sol (at t.m) 17 x → Source m z st x
-    source x s = (source_iff m z st (Sol (at t.m) 17) solves x).0 s
+  pub image_back : (x y : ℕ → ℕ) → Image p.variables (I.var p.from) (ent p.off) x y
+      → (i : ℕ) → i < p.variables → M.Shifted (M.off m (plan_at m z st) i) (x (M.from m (plan_at m z st) i)) (y i)
+  image_back x y f a h =
+      subst (λ (c : ℤ). y a + under c ≡ x (M.from m (plan_at m z st) a) + over c) (q.off a h)
+      (subst (λ (k : ℕ). y a + under (ent p.off a) ≡ x k + over (ent p.off a)) (q.from a h) (f a h))
+
+  -- those that take it are the solutions of a matrix
+  module _ (t : List ℤ) (w : MatrixOf (source_bounds m z st) t) where
+    pub source : (x : ℕ → ℕ) → Sol (at t) 17 x → Source m z st x
+    source x s = (source_iff m z st (Sol (at t) 17) w.solves x).0 s
 
     -- the plan's tables take solutions to values
-    pub map_of : Map (at t.m) 17 p.variables (I.var p.from) (ent p.off)
+    pub map_of : Map (at t) 17 p.variables (I.var p.from) (ent p.off)
     map_of = record {
       some = omega (arith, many_is);
       into = λ a h. omega (arith, q.from a h, from_in m (home_of_zone z) st a);
@@ -139,38 +152,25 @@ module _ (m : Model) (z : Z.Zone) (st : Step) (rm : RangedModel m) (rz : RangedZ
           (source_room m z st rm rz x (source x s) a (omega (arith, many_is))));
     }
 
-    pub maps_of : M.head_time m z.order ≤ 10000 → Maps t.m p.variables p.from p.off
+    pub maps_of : M.head_time m z.order ≤ 10000 → Maps t p.variables p.from p.off
     maps_of c = record {
       n₀ = 17;
       few = omega arith;
-      closed = (w.ready e).closed;
+      closed = w.ready.closed;
       map = map_of;
       size = λ a h.
           let y = off_size m (home_of_zone z) st a in
           subst (λ (u : ℤ). Size u 100000000) (sym (q.off a h)) (record { high = omega (arith, y.0, y.1); low = omega (arith, y.0, y.1) });
     }
 
-    -- the image of a valuation, by the tables and by the plan
-    pub image : (x y : ℕ → ℕ) → ((i : ℕ) → i < variables m (home_at m z st).order → M.Shifted (M.off m (plan_at m z st) i) (x (M.from m (plan_at m z st) i)) (y i))
-        → Image p.variables (I.var p.from) (ent p.off) x y
-    image x y f a h =
-        subst (λ (c : ℤ). y a + under c ≡ x (I.var p.from a) + over c) (sym (q.off a h))
-        (subst (λ (k : ℕ). y a + under (M.off m (plan_at m z st) a) ≡ x k + over (M.off m (plan_at m z st) a)) (sym (q.from a h)) (f a (omega (arith, many_is))))
-
-    pub image_back : (x y : ℕ → ℕ) → Image p.variables (I.var p.from) (ent p.off) x y
-        → (i : ℕ) → i < p.variables → M.Shifted (M.off m (plan_at m z st) i) (x (M.from m (plan_at m z st) i)) (y i)
-    image_back x y f a h =
-        subst (λ (c : ℤ). y a + under c ≡ x (M.from m (plan_at m z st) a) + over c) (q.off a h)
-        (subst (λ (k : ℕ). y a + under (ent p.off a) ≡ x k + over (ent p.off a)) (q.from a h) (f a h))
-
-    module _ (r : List ℤ) (u : Remapped t.m 17 p.variables p.from p.off r) where
+    module _ (r : List ℤ) (u : Remapped t 17 p.variables p.from p.off r) where
       -- the states shown are the solutions of the new matrix
       to : (s : State) → Shown m z st s → Sol (at r) p.variables (var s)
       to s h =
           let l = shown_leads m z st rm s h in
           let x = l.0 in
           let v = l.1 in
-          u.to x (var s) ((source_iff m z st (Sol (at t.m) 17) solves x).1 v.source) (image x (var s) v.at)
+          u.to x (var s) ((source_iff m z st (Sol (at t) 17) w.solves x).1 v.source) (image x (var s) v.at)
 
       of : (y : ℕ → ℕ) → Sol (at r) p.variables y → (s : State) × Shown m z st s × ((i : ℕ) → i < p.variables → y i ≡ var s i)
       of y h =
@@ -195,3 +195,37 @@ module _ (m : Model) (z : Z.Zone) (st : Step) (rm : RangedModel m) (rz : RangedZ
             let len = ap (λ (x : Home). variables m x.order) h in
             f i j ∙ entry_zero r i j (λ hi hj. u.outside (i * 17 + j) (⊎_elim (λ c. inl (omega (arith, many_is))) (λ c. inr (omega (arith, many_is))) b));
       }
+
+-- ---- the reply to a zone that is lent, with its unused cells
+
+module _ (m : Model) (right : RightModel m) (z : Zone) (lent : Lendable m z) (st : Step) (p : Plan) (q : Planned m (home_of_zone (zone_of z)) st p) where
+  ranged : RangedModel m
+  ranged = right_ranged m right
+
+  few : variables m (order_of z.home) ≤ 17
+  few = variables_few m right z.home.count z.home.tasks lent.home.few
+
+  after : variables m (order_of p.home) ≤ 17
+  after = variables_few m right p.home.count p.home.tasks q.few
+
+  -- no state takes the step: all bounds are 0
+  pub step_empty : NoneMeet (source_bounds m (zone_of z) st) → RightStep m (zone_of z) st (record { empty = true; home = p.home; bounds = replicate 289 (pos 0) })
+  step_empty w = record {
+    reply = reply_empty m (zone_of z) st ranged (lent_ranged m z lent) few p q after w _ q.home refl zeros_entry;
+    few = q.few;
+    unused = q.unused;
+  }
+
+  -- else they are those of the moved matrix
+  module _ (t : List ℤ) (w : MatrixOf (source_bounds m (zone_of z) st) t) where
+    pub step_maps : Maps t p.variables p.from p.off
+    step_maps = maps_of m (zone_of z) st ranged (lent_ranged m z lent) few p q after t w (head_small m right (order_of z.home))
+
+    pub step_some : (r : List ℤ) → ((n : ℕ) → Closed (at t) n → Map (at t) n p.variables (I.var p.from) (ent p.off) → Remapped t n p.variables p.from p.off r)
+        → RightStep m (zone_of z) st (record { empty = false; home = p.home; bounds = r })
+    step_some r f = record {
+      reply = reply_some m (zone_of z) st ranged (lent_ranged m z lent) few p q after t w r (f 17 w.ready.closed (map_of m (zone_of z) st ranged (lent_ranged m z lent) few p q after t w)) _ q.home refl
+          (λ i j. refl);
+      few = q.few;
+      unused = q.unused;
+    }

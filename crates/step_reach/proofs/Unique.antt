@@ -17,6 +17,8 @@ use Rattle.meaning.specs.Zones.Steps as S
 use Rattle.meaning.specs.Zones.Tightest.{Reply}
 use Rattle.meaning.specs.Text.Choice.{pick}
 use Rattle.meaning.proofs.Zones.Tightest.{one_reply}
+use Rattle.std.specs.Prelude.{Result, Ok, IfOk}
+use Rattle.refusals.specs.declared.Reason.{Reason}
 use Rattle.zone.specs.declared.Zone.{Zone}
 use Rattle.zone_bounds.specs.Entries.{is_bound}
 use Rattle.zone_list.specs.declared.form.Step.{Step}
@@ -59,8 +61,7 @@ module _ (m : Model) (z : Z.Zone) (st : S.Step) (r s : StepReply) (l : Long r) (
       let home = home_once r.home s.home l.tasks k.tasks a.few b.few a.unused b.unused (ap (λ (x : Reply). x.home) q) in
       let empty = ap (λ (x : Reply). x.empty) q in
       let bounds = ext_get_or (pos 0) r.bounds s.bounds (l.bounds ∙ sym k.bounds) (λ i h. entry q i (omega (arith, l.bounds))) in
-      let refusal : r.refusal ≡ s.refusal = a.taken ∙ sym b.taken in
-      (λ x. record { refusal = refusal x; empty = empty x; home = home x; bounds = bounds x })
+      (λ x. record { empty = empty x; home = home x; bounds = bounds x })
     where
       entry : reply_of r ≡ reply_of s → (i : ℕ) → i < 289 → get_or r.bounds i (pos 0) ≡ get_or s.bounds i (pos 0)
       entry q i h =
@@ -70,15 +71,15 @@ module _ (m : Model) (z : Z.Zone) (st : S.Step) (r s : StepReply) (l : Long r) (
           (same_bound (get_or r.bounds (i / 17 * 17 + i % 17) (pos 0)) (get_or s.bounds (i / 17 * 17 + i % 17) (pos 0))
           (sym (entry_inside r.bounds (i / 17) (i % 17) (omega arith) (omega arith)) ∙ x ∙ entry_inside s.bounds (i / 17) (i % 17) (omega arith) (omega arith)))
 
-module _ (t : List ℕ) (z : Zone) (step : Step) (r s : StepReply) (l : Long r) (k : Long s) where
+module _ (t : List ℕ) (z : Zone) (step : Step) (r s : Result StepReply Reason) (l : IfOk r Long) (k : IfOk s Long) where
   -- any two replies that the contract allows are one
   pub step_once : Replied t z step r → Replied t z step s → r ≡ s
   step_once (bad n e) (bad m f) = e ∙ sym f
   step_once (bad n e) (unlisted g v m f) = absurd (n (g, v))
-  step_once (bad n e) (right g v i w) = absurd (n (g, v))
+  step_once (bad n e) (right g v i b f w) = absurd (n (g, v))
   step_once (unlisted g v n e) (bad m f) = absurd (m (g, v))
   step_once (unlisted g v n e) (unlisted g' v' m f) = e ∙ sym f
-  step_once (unlisted g v n e) (right g' v' i w) = absurd (n i)
-  step_once (right g v i w) (bad m f) = absurd (m (g, v))
-  step_once (right g v i w) (unlisted g' v' m f) = absurd (m i)
-  step_once (right g v i w) (right g' v' j u) = right_one _ _ _ r s l k w u
+  step_once (unlisted g v n e) (right g' v' i b f w) = absurd (n i)
+  step_once (right g v i a e w) (bad m f) = absurd (m (g, v))
+  step_once (right g v i a e w) (unlisted g' v' m f) = absurd (m i)
+  step_once (right g v i a e w) (right g' v' j b f u) = e ∙ ap Ok (right_one _ _ _ a b (subst (λ (x : Result StepReply Reason). IfOk x Long) e l) (subst (λ (x : Result StepReply Reason). IfOk x Long) f k) w u) ∙ sym f

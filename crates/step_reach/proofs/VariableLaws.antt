@@ -47,13 +47,13 @@ module _ (s : Slots) where
   slot_at_lem : (k : ℕ) → k < s.count → get_or (slots_in s) k no_slot ≡ slot_in s k
   slot_at_lem k h = let e : 0 + k ≡ k = omega arith in get_d_tab 0 (slot_in s) s.count k no_slot h ∙ ap (slot_in s) e
 
-  pub slot_sum : (i : ℕ) → i < s.count + s.count → i % 2 ≡ 0 → get_or s.sums (i / 2) 0 ≡ get_or (slot_vars (slots_in s)) i 0
+  pub slot_sum : (i : ℕ) → i < s.count + s.count → i % 2 ≡ 0 → (slot_in s (i / 2)).sum ≡ get_or (slot_vars (slots_in s)) i 0
   slot_sum i h e =
       let q : i / 2 + i / 2 ≡ i = omega arith in
       ap (λ (x : Slot). x.sum) (sym (slot_at_lem (i / 2) (omega arith))) ∙ sym (vars_sum (slots_in s) (i / 2) (omega (arith, many_in)))
       ∙ ap (λ (x : ℕ). get_or (slot_vars (slots_in s)) x 0) q
 
-  pub slot_age : (i : ℕ) → i < s.count + s.count → (i % 2 ≡ 0 → ⊥) → get_or s.ages (i / 2) 0 ≡ get_or (slot_vars (slots_in s)) i 0
+  pub slot_age : (i : ℕ) → i < s.count + s.count → (i % 2 ≡ 0 → ⊥) → (slot_in s (i / 2)).age ≡ get_or (slot_vars (slots_in s)) i 0
   slot_age i h e =
       let q : suc (i / 2 + i / 2) ≡ i = omega arith in
       ap (λ (x : Slot). x.age) (sym (slot_at_lem (i / 2) (omega arith))) ∙ sym (vars_age (slots_in s) (i / 2) (omega (arith, many_in)))
@@ -132,9 +132,6 @@ module _ (t : List ℕ) (n edge : ℕ) (s : Slots) (i : ℕ) (w : n ≡ (decode 
 -- ---- what is added
 
 module _ (n : ℕ) (time sum : ℤ) (i : ℕ) where
-  pub added_zero : i ≡ 0 → Adds n time sum i (pos 0)
-  added_zero h = record { is = λ m p c a b d l. ap (λ (k : ℕ). off m p k) (sym h) }
-
   pub added_clock : 0 < i → i ≤ n → Adds n time sum i time
   added_clock h g = record {
     is = λ m p c a b d l.

@@ -1,6 +1,6 @@
 -- What the reply of a zone's step stands for, and which reply is right.
 -- Assumes nothing.
-use Rattle.std.specs.Prelude.{◌≡◌, false, ◌&&◌, List, ℕ, ◌+◌, ◌*◌, ◌≤◌, ltb, ℤ, pos, get_or, replicate}
+use Rattle.std.specs.Prelude.{◌≡◌, ◌&&◌, List, ℕ, ◌+◌, ◌*◌, ◌≤◌, ltb, ℤ, pos, get_or, Result, Ok, Err}
 use Rattle.std.proofs.Math.Option.{Option, none, some}
 use Rattle.meaning.specs.Model.{Model}
 use Rattle.meaning.specs.Zones.Zone as Z
@@ -10,6 +10,8 @@ use Rattle.meaning.specs.Text.Choice.{pick}
 use Rattle.meaning.specs.Text.Ranges.{queue_most, variables_most}
 use Rattle.meaning.specs.Text.ModelReader.{Given}
 use Rattle.meaning.specs.Text.ModelTable.{decode}
+use Rattle.refusals.specs.declared.Reason.{Reason}
+use Rattle.refusals.specs.declared.Reason.TheVariants.{NotProper, NotAllowed}
 use Rattle.home.specs.Stands.{home_of}
 use Rattle.zone_list.specs.declared.form.Step.{Step}
 use Rattle.zone_list.specs.Steps.{step_of, Listed}
@@ -34,24 +36,15 @@ reply_of r = record {
   entry = entry_at r.bounds;
 }
 
--- a refusal: its number, and 0 in every other field
-abbrev pub refused : ℕ → StepReply
-refused n = record {
-  refusal = n;
-  empty = false;
-  home = record { location = 0; tasks = replicate queue_most 0; count = 0 };
-  bounds = replicate 289 (pos 0);
-}
-
 -- the step's reply: right, and unused cells 0
 pub record RightStep (m : Model) (z : Z.Zone) (st : S.Step) (r : StepReply) : Type 0 where
-  pub taken : r.refusal ≡ 0
   pub reply : RightReply m z st (reply_of r)
   pub few : r.home.count ≤ queue_most
   pub unused : (k : ℕ) → r.home.count ≤ k → get_or r.home.tasks k 0 ≡ 0
 
 -- 13 is given for "tables that no text within 1 gives" and for a zone that can't be lent; then 12 for "a zone's step that isn't in its list"
-pub data Replied (t : List ℕ) (z : Zone) (step : Step) (r : StepReply) : Type 0 where
-  bad : (Given t × Lendable (decode t) z → ⊥) → r ≡ refused 13 → Replied t z step r
-  unlisted : Given t → Lendable (decode t) z → (Listed (decode t) (home_of z.home) step → ⊥) → r ≡ refused 12 → Replied t z step r
-  right : Given t → Lendable (decode t) z → Listed (decode t) (home_of z.home) step → RightStep (decode t) (zone_of z) (step_of step) r → Replied t z step r
+pub data Replied (t : List ℕ) (z : Zone) (step : Step) (r : Result StepReply Reason) : Type 0 where
+  bad : (Given t × Lendable (decode t) z → ⊥) → r ≡ Err NotProper → Replied t z step r
+  unlisted : Given t → Lendable (decode t) z → (Listed (decode t) (home_of z.home) step → ⊥) → r ≡ Err NotAllowed → Replied t z step r
+  right : Given t → Lendable (decode t) z → Listed (decode t) (home_of z.home) step → (s : StepReply) → r ≡ Ok s → RightStep (decode t) (zone_of z) (step_of step) s
+      → Replied t z step r

@@ -6,33 +6,36 @@
 
 ghost use Rattle.step_reach.specs.Replies.{Replied};
 
+mod leaving;
 mod plan;
 mod reply;
 mod variables;
 
+use model_table::ModelTable;
 use model_text::is_model;
 pub use plan::{Plan, plan_of};
+use refusals::Reason;
 pub use reply::StepReply;
-use reply::{refusal, stepped};
+use reply::stepped;
 use zone::Zone;
 use zone_list::Step;
 
 // A step of a zone's list: location and queue order after it, and the tightest bounds over all reached
-// states, or at an overflow over the states that meet the guard. 13: the table or the zone can't be
-// lent; 12: the step isn't in the zone's list.
-pub fn step(model: &[u32], zone: Zone, step: Step) -> StepReply
+// states, or at an overflow over the states that meet the guard. `NotProper`: the table or the zone can't
+// be lent; `NotAllowed`: the step isn't in the zone's list.
+#[tactic(auto, using(model_table::proofs::GivenLaws::given_table))]
+pub fn step(model: &[u32], zone: Zone, step: Step) -> Result<StepReply, Reason>
     ensures { Replied model.now zone step result }
 {
-    if is_model(model) {
-        if zone::is_zone(model, zone) {
-            let home = zone.home;
-            let bounds = zone.bounds;
-            if zone_list::has(model, home, step) {
-                return stepped(model, home, bounds, step);
-            }
-            return refusal(12);
-        }
-        return refusal(13);
+    if !is_model(model) {
+        return Err(Reason::NotProper);
     }
-    refusal(13)
+    let model = &ModelTable { cells: model };
+    if !zone::is_zone(model, zone) {
+        return Err(Reason::NotProper);
+    }
+    if !zone_list::has(model, zone.home, step) {
+        return Err(Reason::NotAllowed);
+    }
+    Ok(stepped(model, zone, step))
 }

@@ -1,75 +1,59 @@
 // The reply of a zone's step.
-ghost use Rattle.std.specs.Prelude.{◌≡◌};
-ghost use Rattle.meaning.specs.Text.ModelTable.{decode};
-ghost use Rattle.meaning.specs.Inner.Slots.{RangedZone};
-ghost use Rattle.model_table.specs.Right.{RightTable};
-ghost use Rattle.home.specs.Stands.{home_of, RightHome};
+ghost use Rattle.meaning.specs.Inner.Sources.{source_bounds};
+ghost use Rattle.model_table.specs.Held.{model_of};
+ghost use Rattle.home.specs.Stands.{home_of};
 ghost use Rattle.zone_list.specs.Steps.{step_of, Listed};
-ghost use Rattle.zone_bounds.specs.Entries.{zone_with, Takable};
-ghost use Rattle.step_reach.specs.Replies.{refused, RightStep};
+ghost use Rattle.zone_bounds.specs.Narrowed.{Narrowed};
+ghost use Rattle.zone.specs.Stands.{zone_of, Lendable};
+ghost use Rattle.step_reach.specs.Replies.{RightStep};
 
 use crate::plan::plan_of;
-use bounds::remap;
+use bounds::{Matrix, remap};
 use home::Home;
+use model_table::ModelTable;
 use step_bounds::step_matrix;
+use zone::Zone;
 use zone_bounds::zone_matrix;
 use zone_list::Step;
 
-// A refusal's number, or 0; whether no state takes the step; location and queue order after it; the
-// tightest bounds, that on variable i minus variable j at i * 17 + j.
+// Whether no state takes the step; location and queue order after it; the tightest bounds, that on
+// variable i minus variable j at i * 17 + j, and all 0 if no state takes it. The flag stays beside the
+// bounds, since location and queue order are answers in either case.
 #[derive(Clone, Copy)]
 pub struct StepReply {
-    pub refusal: u32,
     pub empty: bool,
     pub home: Home,
-    pub bounds: [i32; 289],
+    pub bounds: Matrix,
 }
 
-// A refusal: all else is 0.
-pub(crate) fn refusal(number: u32) -> StepReply
-    ensures { result ≡ refused number }
+// The states of the zone that take the step, as one matrix; none where no state does.
+#[tactic(auto, using(zone::proofs::LendableLaws::lent_takable))]
+fn sources(model: &ModelTable, zone: Zone, step: Step) -> Option<Matrix>
+    requires lent { Lendable (model_of model.now) zone }
+    requires listed { Listed (model_of model.now) (home_of zone.home) step }
+    ensures { Narrowed (source_bounds (model_of model.now) (zone_of zone) (step_of step)) result }
 {
-    let home = Home {
-        location: 0,
-        tasks: [0u32; 6],
-        count: 0,
-    };
-    StepReply {
-        refusal: number,
-        empty: false,
-        home,
-        bounds: [0i32; 289],
-    }
+    let states = zone_matrix(model, zone.home, zone.bounds);
+    step_matrix(model, zone.home, step, states)
 }
 
-// The step of a zone's list: the states that take it, as one matrix, and their variables moved.
-pub(crate) fn stepped(model: &[u32], home: Home, bounds: [i32; 289], step: Step) -> StepReply
-    requires right_table { RightTable model.now }
-    requires right_home { RightHome (decode model.now) home }
-    requires ranged_zone { RangedZone (decode model.now) (zone_with home bounds) }
-    requires takable { Takable bounds }
-    requires listed { Listed (decode model.now) (home_of home) step }
-    ensures { RightStep (decode model.now) (zone_with home bounds) (step_of step) result }
+// The step of a zone's list: the states that take it, and their variables moved.
+pub(crate) fn stepped(model: &ModelTable, zone: Zone, step: Step) -> StepReply
+    requires lent { Lendable (model_of model.now) zone }
+    requires listed { Listed (model_of model.now) (home_of zone.home) step }
+    ensures { RightStep (model_of model.now) (zone_of zone) (step_of step) result }
 {
-    let t = step_matrix(model, home, step, zone_matrix(model, home, bounds));
-    let p = plan_of(model, home, step);
-    let after = p.home;
-    if t.empty {
-        return StepReply {
-            refusal: 0,
+    let plan = plan_of(model, zone.home, step);
+    match sources(model, zone, step) {
+        None => StepReply {
             empty: true,
-            home: after,
+            home: plan.home,
             bounds: [0i32; 289],
-        };
-    }
-    let m = t.m;
-    let n = p.variables;
-    let from = p.from;
-    let off = p.off;
-    StepReply {
-        refusal: 0,
-        empty: false,
-        home: after,
-        bounds: remap(m, n, from, off),
+        },
+        Some(m) => StepReply {
+            empty: false,
+            home: plan.home,
+            bounds: remap(m, plan.variables, plan.from, plan.off),
+        },
     }
 }

@@ -2,7 +2,7 @@
 -- Assumes nothing.
 use mathlib.Core.Path.{◌≡◌, refl, sym, ◌∙◌, ap, subst}
 use mathlib.Core.Bool.{Bool, true, false}
-use mathlib.Core.List.{List, ◌∷◌}
+use mathlib.Core.List.{List, [], ◌∷◌}
 use Prim.Native.Nat.{ℕ, zero, suc, ◌+◌, ◌-◌, ◌*◌, ◌<◌, ◌≤◌}
 use native.Mathlib.Omega.{arith}
 use native.Mathlib.Decide.{dec_lt, ℕ_discrete}
@@ -14,14 +14,15 @@ use mir.Val.{SFits}
 use Rattle.bounds.specs.Matrix.{ent, at, Meets, Sol, Size, Closed}
 use Rattle.bounds.specs.Range.{Ready}
 use Rattle.bounds.specs.Images.{var, Map, Maps}
-use Rattle.bounds.specs.Results.{Exact, Remapped}
+use Rattle.bounds.specs.Results.{Widest, Exact, Remapped}
 use Rattle.bounds.specs.Claims.{bias, Cells}
 use Rattle.bounds.proofs.Signed.{fits_make}
 use Rattle.bounds.proofs.Store.{zeros_z, true_false, false_true}
-use Rattle.bounds.proofs.Ranges.{ready_tighten}
+use Rattle.bounds.proofs.Ranges.{ready_top, ready_tighten}
 use Rattle.bounds.proofs.Mapping.{ready_maps, ready_remap}
 use Rattle.bounds.proofs.Instances.{TickMap, tick_map, FinishMap, finish_map, InsertMap, insert_map, ResetMap, reset_map}
-use Rattle.try_bounds.specs.Lists.{Listed, Made, TwoJobs}
+use Rattle.try_bounds.specs.Lists.{bound_at, IsBound, Listed, MadeTo, TwoJobs}
+use Rattle.try_bounds.specs.declared.Bound.{Bound}
 
 abbrev pub All : ℕ → (ℕ → Type 0) → Type 0
 All zero P = 0 ≤ 0
@@ -41,28 +42,37 @@ four P p₀ p₁ p₂ p₃ = each 4 P (p₀, (p₁, (p₂, (p₃, omega arith)))
 pub six : (P : ℕ → Type 0) → P 0 → P 1 → P 2 → P 3 → P 4 → P 5 → (a : ℕ) → a < 6 → P a
 six P p₀ p₁ p₂ p₃ p₄ p₅ = each 6 P (p₀, (p₁, (p₂, (p₃, (p₄, (p₅, omega arith))))))
 
-pub nine : (P : ℕ → Type 0) → P 0 → P 1 → P 2 → P 3 → P 4 → P 5 → P 6 → P 7 → P 8 → (a : ℕ) → a < 9 → P a
-nine P p₀ p₁ p₂ p₃ p₄ p₅ p₆ p₇ p₈ = each 9 P (p₀, (p₁, (p₂, (p₃, (p₄, (p₅, (p₆, (p₇, (p₈, omega arith)))))))))
-
 pub limit_fits : {z : ℤ} → Size z 640002 → SFits w32 z
 limit_fits e = fits_make (omega arith) (omega arith)
 
--- a list of bounds, from what holds of all nine indices
-pub listed : (n k : ℕ) (rows columns : List ℕ) (limits : List ℤ) → 0 < n → n ≤ 17 → k ≤ 9 → ((t : ℕ) → t < 9 → var rows t < n) → ((t : ℕ) → t < 9 → var columns t < n) → ((t : ℕ) → t < 9 → Size (ent limits t) 640002)
-    → Listed n k rows columns limits
-listed n k rows columns limits h₀ h₁ h₂ r c z = record { some = h₀; few = h₁; short = h₂; row = λ t h. r t (omega arith); column = λ t h. c t (omega arith); size = λ t h. z t (omega arith) }
+-- a list of bounds, from what holds of each
+abbrev pub Bounds : ℕ → List Bound → Type 0
+Bounds n [] = 0 ≤ 0
+Bounds n (b ∷ bs) = IsBound n b × Bounds n bs
+
+bounds_at : (n : ℕ) (list : List Bound) → Bounds n list → (t : ℕ) → t < length list → IsBound n (bound_at list t)
+bounds_at n [] w t h = absurd (omega arith)
+bounds_at n (b ∷ bs) w zero h = w.0
+bounds_at n (b ∷ bs) w (suc t) h = bounds_at n bs w.1 t (omega arith)
+
+pub listed : (n : ℕ) (list : List Bound) → 0 < n → n ≤ 17 → Bounds n list → Listed n list
+listed n list h₀ h₁ w = record { some = h₀; few = h₁; each = bounds_at n list w }
+
+-- no bound yet
+pub made_first : (n : ℕ) (list : List Bound) (m : List ℤ) → 0 < n → n ≤ 17 → Widest m → MadeTo n list 0 m
+made_first n list m h₀ h₁ w = record { ready = ready_top m n 640002 w h₀ h₁; meets = λ x s t h. absurd (omega arith) }
 
 -- one bound more
-pub made_more : (n t : ℕ) (rows columns : List ℕ) (limits m r : List ℤ) → var rows t < n → var columns t < n → n ≤ 17 → Size (ent limits t) 640002
-    → Made n t rows columns limits m → Exact m n (var rows t) (var columns t) (ent limits t) r → Made n (t + 1) rows columns limits r
-made_more n t rows columns limits m r hi hj hn z M x = record {
-  ready = ready_tighten m n (var rows t) (var columns t) (ent limits t) r n 640002 hi hj M.ready (omega arith) z x;
+pub made_more : (n t : ℕ) (list : List Bound) (m r : List ℤ) → n ≤ 17 → IsBound n (bound_at list t)
+    → MadeTo n list t m → let b = bound_at list t in Exact m n b.i b.j b.c r → MadeTo n list (t + 1) r
+made_more n t list m r hn z M x = record {
+  ready = let b = bound_at list t in ready_tighten m n b.i b.j b.c r n 640002 z.row z.column M.ready (omega arith) z.size x;
   meets = λ y s q h. let w = x.sound y s in go y w.0 w.1 q h (dec_lt q t);
 }
   where
-    go : (y : ℕ → ℕ) → Sol (at m) n y → Meets (var rows t) (var columns t) (ent limits t) y → (q : ℕ) → q < t + 1 → Dec (q < t) → Meets (var rows q) (var columns q) (ent limits q) y
+    go : (y : ℕ → ℕ) → Sol (at m) n y → (let b = bound_at list t in Meets b.i b.j b.c y) → (q : ℕ) → q < t + 1 → Dec (q < t) → (let b = bound_at list q in Meets b.i b.j b.c y)
     go y s w q h (yes l) = M.meets y s q l
-    go y s w q h (no l) = let e : t ≡ q = omega arith in subst (λ (v : ℕ). Meets (var rows v) (var columns v) (ent limits v) y) e w
+    go y s w q h (no l) = let e : t ≡ q = omega arith in subst (λ (v : ℕ). let b = bound_at list v in Meets b.i b.j b.c y) e w
 
 -- what `remap` asks of a map, and what it gives
 module _ (m : List ℤ) (n₀ n : ℕ) (p : List ℕ) (off : List ℤ) (R : Ready m n₀ n₀ 640002) (h : n₀ ≤ 17) (g : n ≤ 17) (P : Map (at m) n₀ n (var p) (ent off)) (Z : (a : ℕ) → a < n → Size (ent off a) 640002) where

@@ -7,16 +7,11 @@ use machine::{Job, Outcome, Reply, State};
 mod print;
 mod runs;
 
-use runs::run;
+use runs::{run, table_of};
 
 // Location 1, no clocks, and two jobs.
 fn with_jobs(first: Job, second: Job) -> State {
-    let none = Job {
-        task: 0,
-        done: 0,
-        age: 0,
-    };
-    let mut jobs = [none; 6];
+    let mut jobs = [Job::NONE; 6];
     jobs[0] = first;
     jobs[1] = second;
     State {
@@ -29,8 +24,7 @@ fn with_jobs(first: Job, second: Job) -> State {
 
 // A queue of task 2 with 1 tick done and task 1 with 3, and a tick.
 fn lend() {
-    let mut table = [0; 1092];
-    model_text::read_model(b"PO 1\nCK 0\nTK 5 20 1\nTK 2 20 2\nLO 0\nEN\n", &mut table);
+    let table = table_of(b"PO 1\nCK 0\nTK 5 20 1\nTK 2 20 2\nLO 0\nEN\n");
     let first = Job {
         task: 2,
         done: 1,
@@ -43,24 +37,19 @@ fn lend() {
     };
     let state = with_jobs(first, second);
     print::text(b"P 3\n");
-    let before = Reply {
+    print::show(Reply {
         outcome: Outcome::Went,
         state,
-    };
-    print::show(before);
-    let jobs = state.jobs;
-    print::sums(jobs);
+    });
+    print::sums(state.jobs);
     let after = machine::tick(&table, state);
     print::show(after);
-    let then = after.state;
-    let left = then.jobs;
-    print::sums(left);
+    print::sums(after.state.jobs);
 }
 
 // A queue whose jobs owe 24 and 35 and have 30 and 42 ticks left, and the release of a job with C 10 and D 100.
 fn insert_third(name: &[u8], text: &[u8]) {
-    let mut table = [0; 1092];
-    model_text::read_model(text, &mut table);
+    let table = table_of(text);
     let first = Job {
         task: 1,
         done: 6,

@@ -1,7 +1,7 @@
 // A reply as a line: what the step came to, the location, the clocks, and task, done and age of each job.
 ghost use Rattle.std.specs.Prelude.{◌+◌, ◌≤◌};
 
-use machine::{Job, Outcome, Reply};
+use machine::{Clocks, Job, Jobs, Outcome, Reply};
 
 // Where what is printed goes.
 const STDOUT_FILENO: i32 = 1;
@@ -15,59 +15,49 @@ pub(crate) fn number(n: u32) {
     io::print_decimal(STDOUT_FILENO, n as u64);
 }
 
-fn outcome(o: Outcome) {
-    match o {
-        Outcome::Went => {
-            text(b"OK");
-        }
-        Outcome::Missed(k) => {
+fn outcome(came: Outcome) {
+    match came {
+        Outcome::Went => text(b"OK"),
+        Outcome::Missed(position) => {
             text(b"MISS");
-            number(k);
+            number(position);
         }
-        Outcome::Overflowed => {
-            text(b"OVER");
-        }
-        Outcome::Refused(n) => {
+        Outcome::Overflowed => text(b"OVER"),
+        Outcome::Refused(reason) => {
             text(b"RF");
-            number(n);
+            number(reason.into());
         }
     }
 }
 
-fn clocks(values: [u32; 4]) {
-    let mut k: usize = 0;
-    while k < 4 {
-        number(values[k]);
-        k += 1;
+fn clocks(values: Clocks) {
+    for value in values {
+        number(value);
     }
 }
 
-fn jobs(queue: [Job; 6], count: u32) {
-    let mut k: usize = 0;
-    while k < 6 {
-        if (k as u32) < count {
-            let job = queue[k];
-            number(job.task);
-            number(job.done);
-            number(job.age);
-            text(b" ;");
-        }
-        k += 1;
+fn job(job: Job) {
+    number(job.task);
+    number(job.done);
+    number(job.age);
+    text(b" ;");
+}
+
+fn jobs(queue: Jobs, count: u32) {
+    for &each in queue.iter().take(count as usize) {
+        job(each);
     }
 }
 
 pub(crate) fn show(reply: Reply) {
-    let came = reply.outcome;
     let state = reply.state;
-    outcome(came);
+    outcome(reply.outcome);
     text(b" /");
     number(state.location);
     text(b" /");
-    let values = state.clocks;
-    clocks(values);
+    clocks(state.clocks);
     text(b" /");
-    let queue = state.jobs;
-    jobs(queue, state.count);
+    jobs(state.jobs, state.count);
     text(b"\n");
 }
 
@@ -76,9 +66,8 @@ fn sum_with(sum: u64, job: Job) -> u64
     requires { sum ≤ 100000000000 }
     ensures { result ≤ sum + 4294967296 }
 {
-    let done = job.done;
-    let next = sum + (done as u64);
-    if 0 < done {
+    let next = sum + job.done as u64;
+    if 0 < job.done {
         text(b" ");
         io::print_decimal(STDOUT_FILENO, next);
     }
@@ -86,13 +75,11 @@ fn sum_with(sum: u64, job: Job) -> u64
 }
 
 // The running sums of the jobs that have work done.
-pub(crate) fn sums(queue: [Job; 6]) {
-    let mut k: usize = 0;
-    let mut sum: u64 = 0;
+pub(crate) fn sums(queue: Jobs) {
+    let mut sum = 0;
     text(b"sums");
-    while k < 6 {
-        sum = sum_with(sum, queue[k]);
-        k += 1;
+    for job in queue {
+        sum = sum_with(sum, job);
     }
     text(b"\n");
 }

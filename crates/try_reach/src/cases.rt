@@ -8,7 +8,8 @@ use zone_list::{Kind, Step};
 // The table of a model's text, with the change that comes next: it may then be one that no text gives.
 pub(crate) fn next_table(text: &[u8]) -> [u32; 1092] {
     let mut table = [0u32; 1092];
-    model_text::read_model(text, &mut table);
+    // A text that is refused leaves the table 0, and that is a case too.
+    let _ = model_text::read_model(text, &mut table);
     let cell = next_number() as usize;
     let value = next_number();
     if cell < 1092 {
@@ -20,10 +21,8 @@ pub(crate) fn next_table(text: &[u8]) -> [u32; 1092] {
 // All six cells, those behind the queue too: they may be other than 0.
 fn next_tasks() -> [u32; 6] {
     let mut tasks = [0u32; 6];
-    let mut k: usize = 0;
-    while k < 6 {
-        tasks[k] = next_number();
-        k += 1;
+    for task in tasks.iter_mut() {
+        *task = next_number();
     }
     tasks
 }
@@ -31,13 +30,10 @@ fn next_tasks() -> [u32; 6] {
 // The bounds that are written; all others are "no bound".
 fn next_bounds() -> [i32; 289] {
     let mut bounds = [Zone::NO_BOUND; 289];
-    let n = next_number();
-    let mut k: u32 = 0;
-    while k < n {
+    for _ in 0..next_number() {
         let i = next_number() as usize;
         let j = next_number() as usize;
         bounds[(i * 17 + j) % 289] = less(next_number(), 50000);
-        k += 1;
     }
     bounds
 }

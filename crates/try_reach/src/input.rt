@@ -1,14 +1,14 @@
 // Numbers and texts of standard input.
-ghost use Rattle.std.specs.Prelude.{◌<◌, ◌≤◌};
+ghost use Rattle.std.specs.Prelude.{◌<◌, ◌≤◌, IfSome, length};
 
 // What a digit's byte stands for: its low four bits.
 fn digit(b: u8) -> u32
     ensures { result < 16 }
 {
-    (b as u32) % 16
+    u32::from(b % 16)
 }
 
-// The number that five digits write.
+// The number that five digits write; digit by digit, since a fold's bound would grow with each.
 fn number_of(field: [u8; 6]) -> u32
     ensures { result ≤ 166665 }
 {
@@ -20,7 +20,8 @@ fn number_of(field: [u8; 6]) -> u32
     a * 10000 + b * 1000 + c * 100 + d * 10 + e
 }
 
-// The next number; at the end, one that is more than any room or table has.
+// The next number; at the end, one that is more than any room or table has. It stays a number there: a
+// case that is cut off is still read to its last number.
 pub(crate) fn next_number() -> u32
     ensures { result ≤ 166665 }
 {
@@ -31,14 +32,14 @@ pub(crate) fn next_number() -> u32
     number_of(field)
 }
 
-// The next text, behind its length, into the room, and its length; at the end, more than the room has.
-pub(crate) fn next_text(room: &mut [u8]) -> usize {
+// The next text, behind its length, into the room, and its length; none at the end, or if it is longer
+// than the room.
+pub(crate) fn next_text(room: &mut [u8]) -> Option<usize>
+    ensures { IfSome result (λ n. n ≤ length room.old) }
+{
     let n = next_number() as usize;
-    if room.len() < n {
-        return 166665;
+    if room.len() < n || io::read_full(0, &mut room[..n]) != n {
+        return None;
     }
-    if io::read_full(0, &mut room[..n]) != n {
-        return 166665;
-    }
-    n
+    Some(n)
 }

@@ -21,8 +21,7 @@ fn show_reply(table: &[u32], n: usize) {
     let step = next_step();
     let clocks = next_number() as usize;
     if n <= table.len() {
-        let reply = step_reach::step(&table[..n], zone, step);
-        print::show(reply, clocks);
+        print::show(step_reach::step(&table[..n], zone, step), clocks);
     }
 }
 
@@ -33,37 +32,25 @@ fn show_case(text: &[u8]) {
     show_reply(&table, n);
 }
 
-// The first n bytes of the room are the model's text.
-fn show_front(room: &[u8], n: usize) {
-    if n <= room.len() {
-        show_case(&room[..n]);
-    }
-}
-
 // The next case; false at the end of standard input.
 fn show_next(room: &mut [u8]) -> bool {
-    let k = next_text(room);
-    if room.len() < k {
+    let Some(k) = next_text(room) else {
         return false;
-    }
+    };
     print::text(&room[..k]);
-    let n = next_text(room);
-    if room.len() < n {
+    let Some(n) = next_text(room) else {
         return false;
-    }
-    show_front(room, n);
+    };
+    show_case(&room[..n]);
     true
 }
 
 // At most a thousand cases, so that it ends whatever standard input is.
 fn main() {
     let mut room = [0u8; 4096];
-    let mut k: usize = 0;
-    while k < 1000 {
-        if show_next(&mut room) {
-            k += 1;
-        } else {
-            k = 1000;
+    for _ in 0..1000 {
+        if !show_next(&mut room) {
+            break;
         }
     }
 }

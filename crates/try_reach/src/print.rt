@@ -3,6 +3,9 @@
 // exclamation mark if a cell that belongs to no two variables isn't 0.
 ghost use Rattle.std.specs.Prelude.{◌<◌, ◌≤◌};
 
+use bounds::Matrix;
+use home::{Home, Tasks};
+use refusals::Reason;
 use step_reach::StepReply;
 use zone::Zone;
 
@@ -20,17 +23,10 @@ fn number(n: u32) {
     io::print_decimal(STDOUT_FILENO, n as u64);
 }
 
-// A bound, behind a space; no reply has one below -1,000,000,000, so that its size fits.
+// A bound, behind a space.
 fn bound(c: i32) {
-    if c < 0 {
-        text(b" -");
-        if -1_000_000_000 < c {
-            io::print_decimal(STDOUT_FILENO, (0 - c) as u64);
-        }
-    } else {
-        text(b" ");
-        io::print_decimal(STDOUT_FILENO, c as u64);
-    }
+    text(if c < 0 { b" -" } else { b" " });
+    io::print_decimal(STDOUT_FILENO, u64::from(c.unsigned_abs()));
 }
 
 // An entry of the bounds: a bound, or a star, since "no bound" is no number.
@@ -43,98 +39,86 @@ fn entry(c: i32) {
 }
 
 // The bounds on variable i minus each variable.
-fn row(m: &[i32; 289], n: usize, i: usize)
+fn row(m: &Matrix, n: usize, i: usize)
     requires { (n ≤ 17) × (i < 17) }
 {
-    let mut j: usize = 0;
     text(b" |");
-    while j < n {
+    for j in 0..n {
         entry(m[i * 17 + j]);
-        j += 1;
     }
 }
 
 // Every row, since a wrong one may stand anywhere.
-fn rows(m: &[i32; 289], n: usize)
+fn rows(m: &Matrix, n: usize)
     requires { n ≤ 17 }
 {
-    let mut i: usize = 0;
-    while i < n {
+    for i in 0..n {
         row(m, n, i);
-        i += 1;
     }
 }
 
 // Does cell k belong to a variable that is not one of the first n?
 fn outside(k: usize, n: usize) -> bool {
-    if k / Zone::VARIABLES < n {
-        return n <= k % Zone::VARIABLES;
-    }
-    true
+    n <= k / Zone::VARIABLES || n <= k % Zone::VARIABLES
 }
 
 // Is a cell that belongs to no two of the n variables other than 0?
-fn stray(m: &[i32; 289], n: usize) -> bool {
-    let mut k: usize = 0;
-    while k < 289 {
-        if outside(k, n) {
-            if m[k] != 0 {
-                return true;
-            }
-        }
-        k += 1;
-    }
-    false
+fn stray(m: &Matrix, n: usize) -> bool {
+    m.iter().enumerate().any(|(k, c)| outside(k, n) && *c != 0)
 }
 
 // All six cells, since those behind the queue have to be 0.
-fn queue(tasks: [u32; 6]) {
-    let mut k: usize = 0;
-    while k < 6 {
-        number(tasks[k]);
-        k += 1;
+fn queue(tasks: Tasks) {
+    for task in tasks {
+        number(task);
     }
 }
 
-// What the step came to, ahead of all that it gives.
-fn outcome(refusal: u32, empty: bool) {
-    if refusal != 0 {
-        text(b"RF");
-        number(refusal);
-    } else if empty {
-        text(b"empty");
-    } else {
-        text(b"some");
-    }
-}
-
-// How many variables the reply has bounds of: none at a refusal, or if no state takes the step.
-fn variables(refusal: u32, empty: bool, clocks: usize, count: u32) -> usize
-    ensures { result ≤ 17 }
-{
-    if refusal != 0 {
-        return 0;
-    }
-    if empty {
-        return 0;
-    }
-    1 + clocks % 5 + 2 * (count as usize % 7)
-}
-
-// The reply, with the cells that have to be 0 as well.
-pub(crate) fn show(reply: StepReply, clocks: usize) {
-    let home = reply.home;
-    let tasks = home.tasks;
-    let m = reply.bounds;
-    let n = variables(reply.refusal, reply.empty, clocks, home.count);
-    outcome(reply.refusal, reply.empty);
+// Location and queue order after the step.
+fn place(home: Home) {
     text(b" /");
     number(home.location);
     number(home.count);
-    queue(tasks);
-    rows(&m, n);
-    if stray(&m, n) {
+    queue(home.tasks);
+}
+
+// How many variables the reply has bounds of: none if no state takes the step.
+fn variables(reply: &StepReply, clocks: usize) -> usize
+    ensures { result ≤ 17 }
+{
+    if reply.empty {
+        return 0;
+    }
+    1 + clocks % 5 + 2 * (reply.home.count as usize % 7)
+}
+
+// A reply, with the cells that have to be 0 as well.
+fn taken(reply: StepReply, clocks: usize) {
+    text(if reply.empty { b"empty" } else { b"some" });
+    place(reply.home);
+    let n = variables(&reply, clocks);
+    rows(&reply.bounds, n);
+    if stray(&reply.bounds, n) {
         text(b" !");
+    }
+}
+
+// A refusal: its number, and no location and no queue.
+fn refused(reason: Reason) {
+    text(b"RF");
+    number(reason.into());
+    place(Home {
+        location: 0,
+        tasks: [0; 6],
+        count: 0,
+    });
+}
+
+// What the step came to, as a line.
+pub(crate) fn show(outcome: Result<StepReply, Reason>, clocks: usize) {
+    match outcome {
+        Ok(reply) => taken(reply, clocks),
+        Err(reason) => refused(reason),
     }
     text(b"\n");
 }

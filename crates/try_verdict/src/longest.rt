@@ -13,24 +13,18 @@ const PAIRS: usize = 144;
 fn put_head(zones: &mut [u32], k: usize)
     requires { k < 48 }
 {
-    let at = 8 * k;
-    put(zones, at, 2);
-    put(zones, at + 1, 2);
-    put(zones, at + 2, 3);
-    put(zones, at + 3, 4);
-    put(zones, at + 4, 5);
-    put(zones, at + 5, 6);
-    put(zones, at + 7, 2 * (k as u32) + 2);
+    let end = 2 * (k as u32) + 2;
+    for (i, number) in [2, 2, 3, 4, 5, 6, 0, end].iter().enumerate() {
+        put(zones, 8 * k + i, *number);
+    }
     put(zones, 14256 + 2 * k, 1);
     put(zones, 14257 + 2 * k, 1);
 }
 
 // 48 of them.
 fn put_heads(zones: &mut [u32]) {
-    let mut k: usize = 0;
-    while k < ZONES {
+    for k in 0..ZONES {
         put_head(zones, k);
-        k += 1;
     }
 }
 
@@ -49,10 +43,8 @@ fn put_bound(zones: &mut [u32], k: usize, long: bool)
 
 // Every zone has all bounds: those of the first pairs, as many as said, are 10, those behind them 0.
 fn put_bounds(zones: &mut [u32], many: usize) {
-    let mut k: usize = 0;
-    while k < ZONES * PAIRS {
+    for k in 0..ZONES * PAIRS {
         put_bound(zones, k, k < many);
-        k += 1;
     }
 }
 
@@ -60,7 +52,7 @@ fn put_bounds(zones: &mut [u32], many: usize) {
 fn show_long(many: usize) {
     let mut model = [0u32; 1092];
     let mut zones = [0u32; 47023];
-    model_text::read_model(
+    let _ = model_text::read_model(
         b"PO 2\nCK 1\nTK 1 9 0\nTK 1 9 0\nTK 1 9 0\nTK 1 9 0\nTK 1 9 0\nLO 0\nEN\n",
         &mut model,
     );
@@ -72,8 +64,7 @@ fn show_long(many: usize) {
 // The first 5,825 pairs have 5,340 bounds, so the text has 65,535 bytes. The next pair is one variable
 // twice; with the one behind it the text is a byte longer.
 pub(crate) fn show_longest() {
-    show_long(5825);
-    show_long(5826);
-    show_long(5827);
-    show_long(6912);
+    for many in [5825, 5826, 5827, 6912] {
+        show_long(many);
+    }
 }

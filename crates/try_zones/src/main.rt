@@ -4,107 +4,78 @@
 // written back, and has to be the same bytes.
 #![tactic(auto)]
 
-ghost use Rattle.std.specs.Prelude.{◌<◌};
+ghost use Rattle.std.specs.Prelude.{◌≡◌, ◌≤◌, length, IfSome};
 
-use model_text::Read as ModelRead;
-use zone_text::{Read, Written};
+use refusals::Refusal;
 
-fn print_refusal(which: u64, number: u32, place: usize) {
+fn print_refusal(which: u64, refusal: Refusal) {
     io::write_all(1, b"RF ");
     io::print_decimal(1, which);
     io::write_all(1, b" ");
-    io::print_decimal(1, number as u64);
+    io::print_decimal(1, u64::from(u32::from(refusal.reason)));
     io::write_all(1, b" ");
-    io::print_decimal(1, place as u64);
+    io::print_decimal(1, refusal.place as u64);
     io::write_all(1, b"\n");
 }
 
 // Whether the first n bytes of what was written are the text.
 fn print_same(written: &[u8], n: usize, text: &[u8]) {
-    if written.len() < n {
-        io::write_all(1, b"too long\n");
-        return;
-    }
-    if check::same(&written[..n], text) {
-        io::write_all(1, b"OK\n");
-    } else {
-        io::write_all(1, b"other bytes\n");
-    }
+    let answer: &[u8] = match written.get(..n) {
+        None => b"too long\n",
+        Some(front) if front == text => b"OK\n",
+        Some(_) => b"other bytes\n",
+    };
+    io::write_all(1, answer);
 }
 
 fn write_back(model: &[u32], table: &[u32], text: &[u8]) {
     let mut buffer = [0u8; 65535];
     match zone_text::write_proposal(model, table, &mut buffer) {
-        Written::Refused(number, place) => print_refusal(2, number, place),
-        Written::Done(n) => print_same(&buffer, n, text),
+        Err(refusal) => print_refusal(2, refusal),
+        Ok(n) => print_same(&buffer, n, text),
     }
 }
 
 fn show_proposal(model: &[u32], text: &[u8]) {
     let mut table = [0u32; 47023];
     match zone_text::read_proposal(model, text, &mut table) {
-        Read::Refused(number, place) => print_refusal(2, number, place),
-        Read::Done => write_back(model, &table, text),
+        Err(refusal) => print_refusal(2, refusal),
+        Ok(()) => write_back(model, &table, text),
     }
 }
 
 fn show(model_text: &[u8], text: &[u8]) {
     let mut model = [0u32; 1092];
     match model_text::read_model(model_text, &mut model) {
-        ModelRead::Refused(number, place) => print_refusal(1, number, place),
-        ModelRead::Done => show_proposal(&model, text),
+        Err(refusal) => print_refusal(1, refusal),
+        Ok(()) => show_proposal(&model, text),
     }
 }
 
-// The first bytes of the two rooms, as many as the two lengths say.
-fn show_fronts(first: &[u8], n: usize, second: &[u8], k: usize) {
-    if n <= first.len() {
-        if k <= second.len() {
-            show(&first[..n], &second[..k]);
-        }
-    }
-}
-
-fn wide(b: u8) -> usize
-    ensures { result < 256 }
+// The next text of standard input into the room, and its length; none at the end, and where it has more bytes than the room.
+fn next_text(room: &mut [u8]) -> Option<usize>
+    ensures fits { IfSome result (λ n. n ≤ length room.new) }
 {
-    (b as usize) % 256
-}
-
-// The length that stands in front of a text.
-fn length_of(head: [u8; 4]) -> usize {
-    let a = wide(head[0]);
-    let b = wide(head[1]);
-    let c = wide(head[2]);
-    let d = wide(head[3]);
-    a * 16777216 + b * 65536 + c * 256 + d
-}
-
-// The next text of standard input into the room, and its length; at the end, more than the room has.
-fn next_text(room: &mut [u8]) -> usize {
     let mut head = [0u8; 4];
     if io::read_full(0, &mut head) != 4 {
-        return 4294967295;
+        return None;
     }
-    let n = length_of(head);
-    if room.len() < n {
-        return 4294967295;
+    let n = u32::from_be_bytes(head) as usize;
+    if room.len() < n || io::read_full(0, &mut room[..n]) != n {
+        return None;
     }
-    if io::read_full(0, &mut room[..n]) != n {
-        return 4294967295;
-    }
-    n
+    Some(n)
 }
 
 fn show_read(model: &[u32], text: &[u8], table: &mut [u32]) {
-    if let Read::Refused(number, place) = zone_text::read_proposal(model, text, table) {
-        print_refusal(2, number, place);
+    if let Err(refusal) = zone_text::read_proposal(model, text, table) {
+        print_refusal(2, refusal);
     }
 }
 
 fn show_written(model: &[u32], table: &[u32], buffer: &mut [u8]) {
-    if let Written::Refused(number, place) = zone_text::write_proposal(model, table, buffer) {
-        print_refusal(2, number, place);
+    if let Err(refusal) = zone_text::write_proposal(model, table, buffer) {
+        print_refusal(2, refusal);
     }
 }
 
@@ -117,7 +88,7 @@ fn show_rooms() {
     let mut table = [0u32; 47023];
     let mut buffer = [0u8; 14];
     show_read(&model, text, &mut small);
-    model_text::read_model(b"PO 2\nCK 0\nTK 1 1 0\nLO 0\nEN\n", &mut model);
+    _ = model_text::read_model(b"PO 2\nCK 0\nTK 1 1 0\nLO 0\nEN\n", &mut model);
     show_read(&model, text, &mut small);
     show_written(&model, &table, &mut buffer);
     show_read(&model, text, &mut table);
@@ -128,11 +99,10 @@ fn main() {
     show_rooms();
     let mut first = [0u8; 65536];
     let mut second = [0u8; 65536];
-    let mut k: usize = 0;
-    while k < 1000 {
-        let n = next_text(&mut first);
-        let m = next_text(&mut second);
-        show_fronts(&first, n, &second, m);
-        k += 1;
+    for _ in 0..1000 {
+        let texts = (next_text(&mut first), next_text(&mut second));
+        if let (Some(n), Some(k)) = texts {
+            show(&first[..n], &second[..k]);
+        }
     }
 }

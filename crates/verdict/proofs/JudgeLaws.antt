@@ -1,13 +1,13 @@
 -- From what the functions find of a step's matrix to what they say of its obligation, kind by kind.
 -- Assumes nothing.
 use mathlib.Core.Path.{◌≡◌, refl, sym, ◌∙◌, ap, subst}
-use mathlib.Core.Logic.{inl, inr, ◌≢◌}
-use mathlib.Core.Bool.{Bool, true, false}
+use mathlib.Core.Logic.{inl, ◌≢◌}
+use mathlib.Core.Bool.{true, false}
 use mathlib.Core.List.{List}
 use mathlib.Core.Option.{Option, some}
 use Prim.Native.Nat.{ℕ, zero, suc, ◌-◌, ◌≤◌, ◌<◌}
 use native.Mathlib.Omega.{arith}
-use lib.IntN.{pos, ◌+ℤ◌}
+use lib.IntN.{ℤ, pos, ◌+ℤ◌}
 use lib.ListN.{get_or}
 use Rattle.meaning.specs.Lists.{nth1}
 use Rattle.meaning.specs.Model.{Model, task_at}
@@ -35,14 +35,13 @@ use Rattle.meaning.specs.Inner.Plans as Moves
 use Rattle.meaning.proofs.Exact.Reached.{shown_leads}
 use Rattle.meaning.proofs.Exact.Solved.{source_iff, source_none}
 use Rattle.meaning.proofs.Exact.Faulty.{OnTime, Kept, Clear, none_holds, on_time_of, on_time_all, over_fails_moved, late_fails, unclaimed_fails, elsewhere_fails, breaks_fails, not_elsewhere_at, clear_holds}
+use Rattle.std.proofs.Common.{None}
 use Rattle.bounds.specs.Matrix.{ent, at, Sol}
 use Rattle.bounds.specs.Images as I
 use Rattle.bounds.specs.Claims as C
 use Rattle.bounds.specs.Claims.{cell}
-use Rattle.bounds.specs.Results.{Met, FirstBroken}
-use Rattle.bounds.specs.declared.tightening.Tight.{Tight}
+use Rattle.bounds.specs.Results.{Met, FirstAt, FirstBroken}
 use Rattle.machine.specs.declared.State.{State}
-use Rattle.machine.specs.Promise.{no_state}
 use Rattle.home.specs.Stands.{order_of}
 use Rattle.zone_bounds.specs.Narrowed.{Narrowed}
 use Rattle.step_bounds.proofs.RangeLaws.{right_ranged}
@@ -50,11 +49,13 @@ use Rattle.step_reach.specs.declared.plan.Plan.{Plan}
 use Rattle.step_reach.proofs.ReplyLaws.{many_is, source, image, image_back}
 use Rattle.zone_table.specs.Sound.{zones_in}
 use Rattle.zone_table.proofs.ZoneParts.{zone_is}
+use Rattle.shown.specs.Drawn as shown
 use Rattle.shown.specs.Drawn.{Drawn, ApartBy, SmallestIs, SmallestApart, FirstLate}
-use Rattle.verdict.specs.declared.answer.Fault.TheVariants.{Nothing, Late, Over, Unclaimed, Elsewhere}
+use Rattle.verdict.specs.declared.answer.Fault.TheVariants.{Late, Over, Unclaimed, Elsewhere}
 use Rattle.verdict.specs.declared.answer.Fault.TheVariants as W
+use Rattle.meaning.specs.Check.Faults.{Fails}
 use Rattle.verdict.specs.Judged.{Judged}
-use Rattle.verdict.proofs.FoundLaws.{found, judged_holds, judged_fails}
+use Rattle.verdict.proofs.FoundLaws.{found, judged_fails}
 use Rattle.verdict.proofs.ClaimLaws.{start_of, kept, zone_ranged, writes_at, broken_there}
 
 module _ (m : Model) (w : RightModel m) (p : Proposal) (f : Follow) where
@@ -62,31 +63,32 @@ module _ (m : Model) (w : RightModel m) (p : Proposal) (f : Follow) where
   rm = right_ranged m w
 
   -- no state takes the step
-  pub judged_none : (t : Tight) → Narrowed (source_bounds m f.zone f.step) t → t.empty ≡ true → Judged m p (follows f) (found Nothing no_state)
-  judged_none t n e = judged_holds m p (follows f) (none_holds m p f rm (source_none m f.zone f.step (n.nothing e)))
+  pub judged_none : Narrowed (source_bounds m f.zone f.step) None → Judged m p (follows f) None
+  judged_none n = none_holds m p f rm (source_none m f.zone f.step n)
 
-  module _ (t : Tight) (l : Plan) (d : Drawn m f.zone f.step t l) where
+  module _ (t : List ℤ) (l : Plan) (d : Drawn m f.zone f.step t l) where
     -- kind 2
     pub judged_over : step_overflows m (home_of_zone f.zone) f.step ≡ true → (r : State) → SmallestIs m f.zone f.step r → Judged m p (follows f) (found Over r)
-    judged_over o r s = judged_fails m p (follows f) Over F.over refl (moved_state m f.zone f.step s.at) r (over_fails_moved m p f rm d.ranged s.at s.lowest o) s.is
+    judged_over o r s = judged_fails m p (follows f) Over (moved_state m f.zone f.step s.at) r (over_fails_moved m p f rm d.ranged s.at s.lowest o) s.is
 
-    module _ (o : step_overflows m (home_of_zone f.zone) f.step ≡ false) (late : ℕ) (q : FirstLate m f.zone f.step late) where
-      on_time_to : (k : ℕ) → late ≡ suc k → (i : ℕ) → i ≤ k → OnTime m p f i
-      on_time_to k e zero h = λ u r t. never t refl
-      on_time_to k e (suc i) h = on_time_of m p f rm i (omega (arith, q.few)) (q.before i (omega (arith, q.few)) (inr (omega arith)))
+    module _ (o : step_overflows m (home_of_zone f.zone) f.step ≡ false) where
+      on_time_to : (late : ℕ) (q : shown.FirstAt m f.zone f.step late) (i : ℕ) → i ≤ q.k → OnTime m p f i
+      on_time_to late q zero h = λ u r t. never t refl
+      on_time_to late q (suc i) h = on_time_of m p f rm i (omega (arith, q.few)) (λ y x b. q.before i (omega arith) (y, x, b))
 
       -- kind 1
-      pub judged_late : (k : ℕ) → late ≡ suc k → (r : State)
-          → SmallestApart m f.zone f.step (age_at m k) 0 (pos (task_at m (get_or (home_at m f.zone f.step).order k 0)).D) r
+      pub judged_late : (late : ℕ) (q : shown.FirstAt m f.zone f.step late) (r : State)
+          → SmallestApart m f.zone f.step (age_at m q.k) 0 (pos (task_at m (get_or (home_at m f.zone f.step).order q.k 0)).D) r
           → Judged m p (follows f) (found (Late late) r)
-      judged_late k e r s =
-          judged_fails m p (follows f) (Late late) (F.late_at (suc k)) (ap (λ (x : ℕ). some (F.late_at x)) e) (moved_state m f.zone f.step s.at) r
-          (late_fails m p f rm d.ranged o k s.at (omega (arith, q.few)) s.lowest (on_time_to k e)) s.is
+      judged_late late q r s =
+          judged_fails m p (follows f) (Late late) (moved_state m f.zone f.step s.at) r
+          (subst (λ (x : ℕ). Fails m p (follows f) (F.late_at x) (moved_state m f.zone f.step s.at)) (sym q.is)
+          (late_fails m p f rm d.ranged o q.k s.at q.few s.lowest (on_time_to late q))) s.is
 
       -- no kind 1
-      module _ (z : late ≡ 0) where
+      module _ (q : FirstLate m f.zone f.step None) where
         on_time : (k : ℕ) → OnTime m p f k
-        on_time = on_time_all m p f (λ k h. on_time_of m p f rm k h (q.before k h (inl z)))
+        on_time = on_time_all m p f (λ k h. on_time_of m p f rm k h (λ y x b. q k h (y, x, b)))
 
         clear_claim : Clear m p f 3
         clear_claim = record {
@@ -100,7 +102,7 @@ module _ (m : Model) (w : RightModel m) (p : Proposal) (f : Follow) where
         -- kind 3
         pub judged_unclaimed : f.claim ≡ 0 → (r : State) → SmallestIs m f.zone f.step r → Judged m p (follows f) (found Unclaimed r)
         judged_unclaimed c r s =
-            judged_fails m p (follows f) Unclaimed F.unclaimed refl (moved_state m f.zone f.step s.at) r
+            judged_fails m p (follows f) Unclaimed (moved_state m f.zone f.step s.at) r
             (unclaimed_fails m p f rm d.ranged o s.at s.lowest clear_claim c) s.is
 
         module _ (c : f.claim ≢ 0) (y : Zone) (e : nth1 p.zones f.claim ≡ some y) where
@@ -117,7 +119,7 @@ module _ (m : Model) (w : RightModel m) (p : Proposal) (f : Follow) where
           pub judged_elsewhere : (home_at m f.zone f.step ≡ home_of_zone y → ⊥) → (r : State) → SmallestIs m f.zone f.step r
               → Judged m p (follows f) (found Elsewhere r)
           judged_elsewhere h r s =
-              judged_fails m p (follows f) Elsewhere F.elsewhere refl (moved_state m f.zone f.step s.at) r
+              judged_fails m p (follows f) Elsewhere (moved_state m f.zone f.step s.at) r
               (elsewhere_fails m p f rm d.ranged o y e s.at s.lowest clear_home h) s.is
 
           module _ (h : home_at m f.zone f.step ≡ home_of_zone y) where
@@ -139,26 +141,26 @@ module _ (m : Model) (w : RightModel m) (p : Proposal) (f : Follow) where
 
 -- ── kind 5, where the bounds of the claimed zone stand in the proposal's table ─────────────────
 
-module _ (m : Model) (w : RightModel m) (u : List ℕ) (g : Given m u) (f : Follow) (a : 1 ≤ f.claim) (b : f.claim ≤ zones_in u) (t : Tight) (l : Plan)
+module _ (m : Model) (w : RightModel m) (u : List ℕ) (g : Given m u) (f : Follow) (a : 1 ≤ f.claim) (b : f.claim ≤ zones_in u) (t : List ℤ) (l : Plan)
     (d : Drawn m f.zone f.step t l) (after : variables m (order_of l.home) ≤ 17) where
   ranged : RangedModel m
   ranged = right_ranged m w
 
   many : l.variables ≡ variables m (home_at m f.zone f.step).order
-  many = many_is m f.zone f.step ranged d.ranged d.few t d.narrowed l d.planned after
+  many = many_is m f.zone f.step ranged d.ranged d.few l d.planned after
 
   few : l.variables ≤ 17
   few = omega (arith, d.planned.many)
 
   -- the bound at a place that no image breaks is kept by every reached state
-  pub met_kept : (i j : ℕ) → i < l.variables → j < l.variables → Met t.m 17 l.variables l.from l.off u (start_of f.claim) i j → Kept m (decode u) f i j
+  pub met_kept : (i j : ℕ) → i < l.variables → j < l.variables → Met t 17 l.variables l.from l.off u (start_of f.claim) i j → Kept m (decode u) f i j
   met_kept i j hi hj h s r x =
       let v = shown_leads m f.zone f.step ranged s (inl r) in
       let e = zone_is m w u g f.claim a b in
       let k : BreaksZone (zone_in u (f.claim - 1)) i j s = subst (λ (z : Option Zone). Breaks z i j s) e x in
       h v.0 (var s)
-      ((source_iff m f.zone f.step (Sol (at t.m) 17) (d.narrowed.solves d.some) v.0).1 v.1.source)
-      (image m f.zone f.step ranged d.ranged d.few t d.narrowed l d.planned after d.some v.0 (var s) v.1.at)
+      ((source_iff m f.zone f.step (Sol (at t) 17) d.narrowed.solves v.0).1 v.1.source)
+      (image m f.zone f.step ranged d.ranged d.few l d.planned after v.0 (var s) v.1.at)
       (broken_there m w u g f.claim a b i j (omega (arith, few)) (omega (arith, few)) s k)
 
   -- an image that breaks it is one that is so far apart
@@ -168,7 +170,7 @@ module _ (m : Model) (w : RightModel m) (u : List ℕ) (g : Given m u) (f : Foll
       let pl = plan_at m f.zone f.step in
       let c = kept (cell u (start_of f.claim) i j) in
       let e = shift_parts (c +ℤ pos 1) (Moves.off m pl j) (Moves.off m pl i) in
-      let o = image_back m f.zone f.step ranged d.ranged d.few t d.narrowed l d.planned after d.some x y q in
+      let o = image_back m f.zone f.step ranged d.ranged d.few l d.planned after x y q in
       let v = o i hi in
       let z = o j hj in
       omega (arith, k.there, k.above, sum_parts c (pos 1), over_of bound_most (cell u (start_of f.claim) i j - 1), under_of bound_most (cell u (start_of f.claim) i j - 1))
@@ -186,54 +188,51 @@ module _ (m : Model) (w : RightModel m) (u : List ℕ) (g : Given m u) (f : Foll
   unclaimed_not : f.claim ≢ 0
   unclaimed_not e = omega arith
 
-  module _ (yes : Bool) (i j : ℕ) (k : FirstBroken t.m 17 l.variables l.from l.off u (start_of f.claim) yes i j) where
-    -- some image breaks the bound at (i, j)
-    pub apart_by : yes ≡ true → ApartBy m t l i j (kept (cell u (start_of f.claim) i j) +ℤ pos 1)
-    apart_by e =
-        let x = k.here e in
-        let n = k.inside e in
-        record {
-          zone = f.zone;
-          step = f.step;
-          drawn = d;
-          at = x.x;
-          source = source m f.zone f.step ranged d.ranged d.few t d.narrowed l d.planned after d.some x.x x.sol;
-          apart = broken_apart i j n.0 n.1 x.x x.y x.image x.breaks;
-        }
+  -- some image breaks the bound at (i, j)
+  pub apart_by : (i j : ℕ) → FirstAt t 17 l.variables l.from l.off u (start_of f.claim) i j → ApartBy m t l i j (kept (cell u (start_of f.claim) i j) +ℤ pos 1)
+  apart_by i j k =
+      let x = k.here in
+      let n = k.inside in
+      record {
+        zone = f.zone;
+        step = f.step;
+        drawn = d;
+        at = x.x;
+        source = source m f.zone f.step ranged d.ranged d.few l d.planned after t d.narrowed x.x x.sol;
+        apart = broken_apart i j n.0 n.1 x.x x.y x.image x.breaks;
+      }
 
-  module _ (o : step_overflows m (home_of_zone f.zone) f.step ≡ false) (late : ℕ) (q : FirstLate m f.zone f.step late) (z : late ≡ 0)
-      (h : home_at m f.zone f.step ≡ home_of_zone claimed_zone) (yes : Bool) (i j : ℕ)
-      (k : FirstBroken t.m 17 l.variables l.from l.off u (start_of f.claim) yes i j) where
+  module _ (o : step_overflows m (home_of_zone f.zone) f.step ≡ false) (q : FirstLate m f.zone f.step None)
+      (h : home_at m f.zone f.step ≡ home_of_zone claimed_zone) where
     same_many : variables m claimed_zone.order ≡ l.variables
     same_many = ap (λ (x : Home). variables m x.order) (sym h) ∙ sym many
 
-    pub judged_breaks : yes ≡ true → (r : State) → SmallestApart m f.zone f.step i j (kept (cell u (start_of f.claim) i j) +ℤ pos 1) r
+    pub judged_breaks : (i j : ℕ) → FirstAt t 17 l.variables l.from l.off u (start_of f.claim) i j → (r : State) → SmallestApart m f.zone f.step i j (kept (cell u (start_of f.claim) i j) +ℤ pos 1) r
         → Judged m (decode u) (follows f) (found (W.Breaks i j) r)
-    judged_breaks e r s =
-        let n = k.inside e in
-        judged_fails m (decode u) (follows f) (W.Breaks i j) (F.breaks i j) refl (moved_state m f.zone f.step s.at) r
+    judged_breaks i j k r s =
+        let n = k.inside in
+        judged_fails m (decode u) (follows f) (W.Breaks i j) (moved_state m f.zone f.step s.at) r
         (breaks_fails m (decode u) f ranged d.ranged o claimed_zone is_claimed i j (kept (cell u (start_of f.claim) i j))
-        (writes_at m w u g f.claim a b i j (omega (arith, few, n.0)) (omega (arith, few, n.1)) (k.here e).breaks.there)
+        (writes_at m w u g f.claim a b i j (omega (arith, few, n.0)) (omega (arith, few, n.1)) k.here.breaks.there)
         (omega (arith, many, n.0)) (omega (arith, many, n.1)) s.at s.lowest
-        (clear_bounds m w (decode u) f t l d o late q z unclaimed_not claimed_zone is_claimed h)
+        (clear_bounds m w (decode u) f t l d o q unclaimed_not claimed_zone is_claimed h)
         (λ x y v.
-        kept_within m w (decode u) f t l d o late q z unclaimed_not claimed_zone is_claimed h claimed_ranged x y
+        kept_within m w (decode u) f t l d o q unclaimed_not claimed_zone is_claimed h claimed_ranged x y
         (λ c e'. let c' : x < l.variables = omega (arith, same_many) in
         let e'' : y < l.variables = omega (arith, same_many) in
-        met_kept x y c' e'' (k.first e x y c' e'' v))))
+        met_kept x y c' e'' (k.first x y c' e'' v))))
         s.is
 
-    pub judged_clear : yes ≡ false → Judged m (decode u) (follows f) (found Nothing no_state)
-    judged_clear e =
-        judged_holds m (decode u) (follows f)
-        (clear_holds m (decode u) f (right_formed m w) (omega arith) (record {
-          late = λ _. on_time m w (decode u) f t l d o late q z;
+    pub judged_clear : FirstBroken t 17 l.variables l.from l.off u (start_of f.claim) None → Judged m (decode u) (follows f) None
+    judged_clear k =
+        clear_holds m (decode u) f (right_formed m w) (omega arith) (record {
+          late = λ _. on_time m w (decode u) f t l d o q;
           over = λ _. o;
           claim = λ _. unclaimed_not;
           home = λ _. not_elsewhere_at m (decode u) f claimed_zone is_claimed h;
           bounds = λ _ x y.
-              kept_within m w (decode u) f t l d o late q z unclaimed_not claimed_zone is_claimed h claimed_ranged x y
+              kept_within m w (decode u) f t l d o q unclaimed_not claimed_zone is_claimed h claimed_ranged x y
               (λ c v. let c' : x < l.variables = omega (arith, same_many) in
               let v' : y < l.variables = omega (arith, same_many) in
-              met_kept x y c' v' (k.nowhere e x y c' v'));
-        }))
+              met_kept x y c' v' (k x y c' v'));
+        })

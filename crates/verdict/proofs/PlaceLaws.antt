@@ -5,6 +5,7 @@ use mathlib.Core.List.{List, [], ◌∷◌}
 use mathlib.Core.Option.{some}
 use Prim.Native.Nat.{ℕ, zero, suc, ◌+◌, ◌-◌, ◌≤◌}
 use native.Mathlib.Omega.{arith}
+use lib.IntN.{ℤ}
 use lib.ListN.{length, get_elem?}
 use Rattle.meaning.specs.Lists.{nth1}
 use Rattle.meaning.specs.Model.{Model}
@@ -19,7 +20,7 @@ use Rattle.meaning.specs.Text.ProposalTable.{zone_in, decode}
 use Rattle.meaning.proofs.Text.Keyed.{each_nth}
 use Rattle.meaning.proofs.Text.ProposalTheorems.{proposal_given_right}
 use Rattle.meaning.specs.Inner.Slots.{zone_bounds, RangedZone}
-use Rattle.bounds.specs.declared.tightening.Tight.{Tight}
+use Rattle.std.proofs.Common.{Option}
 use Rattle.home.specs.declared.Home.{Home}
 use Rattle.home.specs.Stands.{home_of}
 use Rattle.zone_list.specs.declared.form.Step as L
@@ -87,7 +88,7 @@ module _ (m : Model) (r : RightModel m) (t : List ℕ) (g : Given m t) (n : ℕ)
   claim_most x c d = nth1_each (λ (v : ℕ). v ≤ zones_in t) (zone_in t k).claims x (claim_at t n x) right_zone.claims.each (claim_is m r t g n a b x c d)
 
   -- the matrix of the zone by value is that of the zone of the proposal
-  pub read_closed : (z : Zone) → ZoneRead t n z → (c : Tight) → Narrowed (zone_bounds m (zone_of z)) c → ClosedOf m (zone_in t k) z.home c
+  pub read_closed : (z : Zone) → ZoneRead t n z → (c : Option (List ℤ)) → Narrowed (zone_bounds m (zone_of z)) c → ClosedOf m (zone_in t k) z.home c
   read_closed z w c v =
       let e = read_is m r t g n a b z w in
       let q = subst (RangedZone m) e (lent_ranged m z (read_lendable m r t g n a b z w)) in
@@ -98,13 +99,13 @@ module _ (m : Model) (r : RightModel m) (t : List ℕ) (g : Given m t) (n : ℕ)
         narrowed = subst (λ (y : Z.Zone). Narrowed (zone_bounds m y) c) e v;
       }
 
-  module _ (h : Home) (closed : Tight) (w : ClosedOf m (zone_in t k) h closed) (x : ℕ) (c : 1 ≤ x) (d : x ≤ claims_at t n) where
+  module _ (h : Home) (closed : Option (List ℤ)) (w : ClosedOf m (zone_in t k) h closed) (x : ℕ) (c : 1 ≤ x) (d : x ≤ claims_at t n) where
     -- a place of the zone is one of the list of its location and queue order
     pub place_most : x ≤ length (list_at m (home_of h))
     place_most = omega (arith, claims_many, ap (λ (o : R.Home). length (list_at m o)) w.home)
 
     -- what is found of the step with its claim is found of the obligation there
-    pub place_judged : (s : L.Step) → StepAt m (home_of h) x s → (f : Found) (y : ℕ) → y ≡ claim_at t n x
+    pub place_judged : (s : L.Step) → StepAt m (home_of h) x s → (f : Option Found) (y : ℕ) → y ≡ claim_at t n x
         → ((i j : ℕ) (u : Z.Zone) → ClosedOf m u h closed → Judged m (decode t) (following i j u (step_of s) y) f)
         → (o : Obligation) → AtPlace m n (zone_in t k) x o → Judged m (decode t) o f
     place_judged s v f y e j o q =

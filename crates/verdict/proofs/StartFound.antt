@@ -24,18 +24,19 @@ use Rattle.meaning.proofs.Tests.{never}
 use Rattle.model_table.specs.Right.{RightTable}
 use Rattle.home.specs.declared.Home.{Home}
 use Rattle.home.specs.Stands.{home_of}
+use Rattle.std.proofs.Common.{None}
 use Rattle.bounds.specs.Claims.{Cells}
-use Rattle.bounds.specs.Results.{FirstBroken}
+use Rattle.bounds.specs.Results.{FirstAt, FirstBroken}
 use Rattle.machine.specs.declared.State.{State}
 use Rattle.machine.specs.declared.Reply.{Reply}
 use Rattle.machine.specs.declared.Outcome.{Outcome}
 use Rattle.machine.specs.declared.Outcome.TheVariants.{Went, Missed, Overflowed, Refused}
 use Rattle.machine.specs.Stands.{task_of, held}
-use Rattle.machine.specs.Promise.{no_state, Said, went, missed, overflow, refused, said, said_by}
+use Rattle.machine.specs.Promise.{Said, went, missed, overflow, refused, said, said_by}
 use Rattle.zone_table.specs.Sound.{zones_in, queue_in}
 use Rattle.zone_table.specs.Read.{HomeRead}
 use Rattle.zone_table.proofs.ZoneParts.{given_is_sound, home_at_lem, home_right}
-use Rattle.verdict.specs.declared.answer.Fault.TheVariants.{Nothing, Elsewhere}
+use Rattle.verdict.specs.declared.answer.Fault.TheVariants.{Elsewhere}
 use Rattle.verdict.specs.declared.answer.Fault.TheVariants as W
 use Rattle.verdict.specs.Judged.{Judged}
 use Rattle.verdict.proofs.FoundLaws.{found}
@@ -102,16 +103,16 @@ module _ (t : List ℕ) (g : RightTable t) (u : List ℕ) (h : reader.Given (dec
       start_away q = judged_start_elsewhere m right u h (λ z. never (d.1 (at_start ∙ z ∙ sym at_zone)) (not-true b q)) r.state state_is
 
       -- and what that of its bounds says
-      module _ (q : not b ≡ false) (n : ℕ) (all : n ≡ suc (m.clocks + (r.state.count + r.state.count))) (few : n ≤ 17) (from : ℕ) (v : from ≡ start_of 1) (yes : Bool) (i j : ℕ)
-          (k : FirstBroken (replicate 289 (pos 0)) 17 n (replicate 17 0) (replicate 17 (pos 0)) u from yes i j) where
+      module _ (q : not b ≡ false) (n : ℕ) (all : n ≡ suc (m.clocks + (r.state.count + r.state.count))) (few : n ≤ 17) (from : ℕ) (v : from ≡ start_of 1) where
         many : n ≡ variables m (Z.home_of (start m)).order
         many = start_many m r.state state_is n all
 
-        first : FirstBroken (replicate 289 (pos 0)) 17 n (replicate 17 0) (replicate 17 (pos 0)) u (start_of 1) yes i j
-        first = subst (λ (x : ℕ). FirstBroken (replicate 289 (pos 0)) 17 n (replicate 17 0) (replicate 17 (pos 0)) u x yes i j) v k
+        pub start_broken : (i j : ℕ) → FirstAt (replicate 289 (pos 0)) 17 n (replicate 17 0) (replicate 17 (pos 0)) u from i j → Judged m (table.decode u) starts (found (W.Breaks i j) r.state)
+        start_broken i j k =
+            judged_start_breaks m right u h (at_home q) n many few i j
+            (subst (λ (x : ℕ). FirstAt (replicate 289 (pos 0)) 17 n (replicate 17 0) (replicate 17 (pos 0)) u x i j) v k) r.state state_is
 
-        pub start_broken : yes ≡ true → Judged m (table.decode u) starts (found (W.Breaks i j) r.state)
-        start_broken w = judged_start_breaks m right u h (at_home q) n many few yes i j first w r.state state_is
-
-        pub start_clear : yes ≡ false → Judged m (table.decode u) starts (found Nothing no_state)
-        start_clear w = judged_start_holds m right u h (at_home q) n many few yes i j first w
+        pub start_clear : FirstBroken (replicate 289 (pos 0)) 17 n (replicate 17 0) (replicate 17 (pos 0)) u from None → Judged m (table.decode u) starts None
+        start_clear k =
+            judged_start_holds m right u h (at_home q) n many few
+            (subst (λ (x : ℕ). FirstBroken (replicate 289 (pos 0)) 17 n (replicate 17 0) (replicate 17 (pos 0)) u x None) v k)

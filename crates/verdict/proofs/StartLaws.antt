@@ -1,7 +1,6 @@
 -- Obligation 1: what is found of the start and zone 1, and what it says.
 -- Assumes nothing.
 use mathlib.Core.Path.{◌≡◌, refl, ◌∙◌, ap, subst}
-use mathlib.Core.Bool.{Bool, true, false}
 use mathlib.Core.List.{List, [], ◌∷◌, ◌++◌, map}
 use mathlib.Core.Option.{some}
 use Prim.Native.Nat.{ℕ, zero, suc, ◌+◌, ◌*◌, ◌≤◌, ◌<◌}
@@ -18,7 +17,6 @@ use Rattle.meaning.specs.Machine.Run.{start}
 use Rattle.meaning.specs.Zones.Variables.{queue_vars, var, variables}
 use Rattle.meaning.specs.Zones.Reached.{Home, home_of, home_of_zone}
 use Rattle.meaning.specs.Check.Obligations.{starts}
-use Rattle.meaning.specs.Check.Faults as F
 use Rattle.meaning.specs.Check.Faults.{BreaksZone}
 use Rattle.meaning.specs.Text.RightModel.{Each, RightModel}
 use Rattle.meaning.specs.Text.ProposalReader.{Given}
@@ -29,23 +27,23 @@ use Rattle.meaning.specs.Numbers.{over, under}
 use Rattle.meaning.proofs.Hooks.{start_few}
 use Rattle.meaning.proofs.Machine.Proper.{right_formed}
 use Rattle.meaning.proofs.Zones.Home.{mk_home}
+use Rattle.std.proofs.Common.{None}
 use Rattle.bounds.specs.Matrix.{ent, at, Entries, Sol, Closed}
 use Rattle.bounds.specs.Images.{Map, Maps}
 use Rattle.bounds.specs.Images as I
 use Rattle.bounds.specs.Claims as C
-use Rattle.bounds.specs.Results.{Met, FirstBroken}
+use Rattle.bounds.specs.Results.{Met, FirstAt, FirstBroken}
 use Rattle.bounds.proofs.Store.{zeros, zeros_z}
 use Rattle.machine.specs.declared.State.{State}
 use Rattle.machine.specs.Stands.{task_of, cells_of, held}
-use Rattle.machine.specs.Promise.{no_state}
 use Rattle.machine.proofs.QueueLaws.{order_is, queue_cells}
 use Rattle.machine.proofs.ReleaseLaws.{put_all_length}
 use Rattle.zone_table.specs.Sound.{zones_in}
 use Rattle.zone_table.proofs.ZoneParts.{given_is_sound, zone_is}
-use Rattle.verdict.specs.declared.answer.Fault.TheVariants.{Nothing, Elsewhere}
+use Rattle.verdict.specs.declared.answer.Fault.TheVariants.{Elsewhere}
 use Rattle.verdict.specs.declared.answer.Fault.TheVariants as W
 use Rattle.verdict.specs.Judged.{Judged}
-use Rattle.verdict.proofs.FoundLaws.{found, judged_holds, judged_fails}
+use Rattle.verdict.proofs.FoundLaws.{found, judged_fails}
 use Rattle.verdict.proofs.ClaimLaws.{zone_ranged, broken_there, there_broken}
 
 -- ---- the start
@@ -160,10 +158,9 @@ module _ (m : Model) (w : RightModel m) (u : List ℕ) (g : Given m u) where
 
   -- kind 4
   pub judged_start_elsewhere : (home_of (start m) ≡ home_of_zone (zone_in u 0) → ⊥) → (r : State) → r ≡ held (start m) → Judged m (decode u) starts (found Elsewhere r)
-  judged_start_elsewhere h r e = judged_fails m (decode u) starts Elsewhere F.elsewhere refl (start m) r (start_elsewhere m (decode u) (right_formed m w) (zone_in u 0) first_zone h) e
+  judged_start_elsewhere h r e = judged_fails m (decode u) starts Elsewhere (start m) r (start_elsewhere m (decode u) (right_formed m w) (zone_in u 0) first_zone h) e
 
-  module _ (h : home_of (start m) ≡ home_of_zone (zone_in u 0)) (n : ℕ) (many : n ≡ variables m (home_of (start m)).order) (few : n ≤ 17) (yes : Bool) (i j : ℕ)
-      (k : FirstBroken (replicate 289 (pos 0)) 17 n (replicate 17 0) (replicate 17 (pos 0)) u 384 yes i j) where
+  module _ (h : home_of (start m) ≡ home_of_zone (zone_in u 0)) (n : ℕ) (many : n ≡ variables m (home_of (start m)).order) (few : n ≤ 17) where
     in_zone : (x y : ℕ) → BreaksZone (zone_in u 0) x y (start m) → (x < n) × (y < n)
     in_zone x y b =
         let z = ranged_mem (variables m (zone_in u 0).order) (zone_in u 0).bounds (zone_ranged m w u g 1 (omega arith) some_zone) b.bound b.written in
@@ -177,20 +174,19 @@ module _ (m : Model) (w : RightModel m) (u : List ℕ) (g : Given m u) where
         (broken_there m w u g 1 (omega arith) some_zone x y (omega (arith, l.0)) (omega (arith, l.1)) (start m) b)
 
     -- kind 5
-    pub judged_start_breaks : yes ≡ true → (r : State) → r ≡ held (start m) → Judged m (decode u) starts (found (W.Breaks i j) r)
-    judged_start_breaks e r q =
-        let b = k.here e in
-        let l = k.inside e in
+    pub judged_start_breaks : (i j : ℕ) → FirstAt (replicate 289 (pos 0)) 17 n (replicate 17 0) (replicate 17 (pos 0)) u 384 i j → (r : State) → r ≡ held (start m) → Judged m (decode u) starts (found (W.Breaks i j) r)
+    judged_start_breaks i j k r q =
+        let b = k.here in
+        let l = k.inside in
         let a = image_zero n b.x b.y b.sol b.image in
         let c : C.Breaks u 384 i j (var (start m)) = record { there = b.breaks.there; above = omega (arith, b.breaks.above, a i l.0, a j l.1, start_zero m i, start_zero m j) } in
-        judged_fails m (decode u) starts (W.Breaks i j) (F.breaks i j) refl (start m) r
+        judged_fails m (decode u) starts (W.Breaks i j) (start m) r
         (start_breaks m (decode u) (right_formed m w) (zone_in u 0) first_zone i j h
         (there_broken m w u g 1 (omega arith) some_zone i j (omega (arith, l.0)) (omega (arith, l.1)) (start m) c)
-        (λ x y v. kept_so x y (λ c d. k.first e x y c d v)))
+        (λ x y v. kept_so x y (λ c d. k.first x y c d v)))
         q
 
     -- no kind
-    pub judged_start_holds : yes ≡ false → Judged m (decode u) starts (found Nothing no_state)
-    judged_start_holds e =
-        judged_holds m (decode u) starts
-        (start_holds m (decode u) (right_formed m w) (zone_in u 0) first_zone h (λ x y. kept_so x y (λ c d. k.nowhere e x y c d)))
+    pub judged_start_holds : FirstBroken (replicate 289 (pos 0)) 17 n (replicate 17 0) (replicate 17 (pos 0)) u 384 None → Judged m (decode u) starts None
+    judged_start_holds k =
+        start_holds m (decode u) (right_formed m w) (zone_in u 0) first_zone h (λ x y. kept_so x y (λ c d. k x y c d))

@@ -1,84 +1,55 @@
 // From what is found of the obligations to the answer.
 ghost use Rattle.std.specs.Prelude.{◌≡◌};
-ghost use Rattle.meaning.specs.Text.ModelTable.{decode};
 ghost use Rattle.meaning.specs.Text.ProposalReader as reader;
 ghost use Rattle.meaning.specs.Text.ProposalTable as table;
-ghost use Rattle.model_table.specs.Right.{RightTable};
-ghost use Rattle.verdict.specs.Answers as Answers;
-ghost use Rattle.verdict.specs.Answers.{SaysAccepted};
-ghost use Rattle.verdict.specs.AnsweredBy.{AnsweredBy};
+ghost use Rattle.model_table.specs.Held.{model_of};
+ghost use Rattle.verdict.specs.AnsweredBy.{verdict_of, AnsweredBy};
 ghost use Rattle.verdict.specs.Failing.{failing};
 
-use crate::answer::{Answer, Fault, Found};
-use crate::found::{is_clear, no_state};
+use crate::answer::{Failure, Found, Verdict};
 use crate::start::try_start;
 use crate::trying::try_zone;
+use model_table::ModelTable;
 use zone_table::zones as zones_in;
 
-// Refusal 13.
-pub(crate) fn refused() -> Answer
-    ensures { result ≡ Answers.refused }
-{
-    Answer {
-        refusal: 13,
-        number: 0,
-        zone: 0,
-        place: 0,
-        fault: Fault::Nothing,
-        state: no_state(),
+impl Found {
+    // Obligation `number`, of this zone and place, fails so.
+    pub(crate) fn of(self, number: u32, zone: u32, place: u32) -> Failure
+        ensures { result ≡ failing number zone place self }
+    {
+        Failure {
+            number,
+            zone,
+            place,
+            fault: self.fault,
+            state: self.state,
+        }
     }
 }
 
-// Accepted, with the number of obligations tried.
-fn accepted(number: u32) -> Answer
-    ensures { SaysAccepted number result }
+// All obligations, up to the first that fails: how many were tried.
+fn try_all(model: &ModelTable, zones: &[u32]) -> Result<u32, Failure>
+    requires { reader.Given (model_of model.now) zones.now }
+    ensures { AnsweredBy (model_of model.now) (table.decode zones.now) (verdict_of result) }
 {
-    Answer {
-        refusal: 0,
-        number,
-        zone: 0,
-        place: 0,
-        fault: Fault::Nothing,
-        state: no_state(),
-    }
-}
-
-// Obligation `number` fails so.
-fn failed(number: u32, zone: u32, place: u32, found: Found) -> Answer
-    ensures { result ≡ failing number zone place found }
-{
-    let fault = found.fault;
-    let state = found.state;
-    Answer {
-        refusal: 0,
-        number,
-        zone,
-        place,
-        fault,
-        state,
-    }
-}
-
-// The answer on a right model's table and a proposal's table that a text gives over it. The counter goes up with every obligation that is tried.
-pub(crate) fn check_given(model: &[u32], zones: &[u32]) -> Answer
-    requires { RightTable model.now × reader.Given (decode model.now) zones.now }
-    ensures { AnsweredBy (decode model.now) (table.decode zones.now) result }
-{
-    let first = try_start(model, zones);
-    if !is_clear(first) {
-        return failed(1, 1, 0, first);
+    if let Some(found) = try_start(model, zones) {
+        return Err(found.of(1, 1, 0));
     }
     let many = zones_in(zones);
-    let mut n: u32 = 0;
-    let mut tried: u32 = 1;
-    while n < many {
-        n += 1;
-        let t = try_zone(model, zones, n, tried);
-        let found = t.found;
-        if !is_clear(found) {
-            return failed(t.number, n, t.place, found);
-        }
-        tried = t.number;
+    let mut tried = 1;
+    for n in 1..=many {
+        tried = try_zone(model, zones, n, tried)?;
     }
-    accepted(tried)
+    Ok(tried)
+}
+
+// The answer on a right model's table and a proposal's table that a text gives over it.
+pub(crate) fn check_given(model: &ModelTable, zones: &[u32]) -> Verdict
+    requires { reader.Given (model_of model.now) zones.now }
+    ensures { AnsweredBy (model_of model.now) (table.decode zones.now) result }
+{
+    match try_all(model, zones) {
+        Ok(tried) => Verdict::Accepted(tried),
+        Err(failure) => Verdict::Failed(failure),
+    }
 }

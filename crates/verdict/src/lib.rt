@@ -8,27 +8,29 @@ ghost use Rattle.verdict.specs.Answers.{Answered};
 
 mod answer;
 mod answering;
-mod found;
 mod judge;
 mod kinds;
 mod start;
 mod trying;
 
-pub use answer::{Answer, Fault, Found, Tried};
-use answering::{check_given, refused};
-pub use found::no_state;
+pub use answer::{Failure, Fault, Verdict};
+use answering::check_given;
+use model_table::ModelTable;
 use model_text::is_model;
+use refusals::Reason;
 use zone_table::is_proposal;
 
-// Accepted, with the number of obligations tried; or the first that fails, with the smallest state at
-// fault; or refusal 13 for tables that no text gives.
-pub fn check(model: &[u32], zones: &[u32]) -> Answer
+// Accepted, with the number of obligations tried, or the first that fails, with the smallest state at
+// fault; refused as not proper are tables that no text gives.
+pub fn check(model: &[u32], zones: &[u32]) -> Result<Verdict, Reason>
     ensures { Answered model.now zones.now result }
 {
-    if is_model(model) {
-        if is_proposal(model, zones) {
-            return check_given(model, zones);
-        }
+    if !is_model(model) {
+        return Err(Reason::NotProper);
     }
-    refused()
+    let table = &ModelTable { cells: model };
+    if !is_proposal(table, zones) {
+        return Err(Reason::NotProper);
+    }
+    Ok(check_given(table, zones))
 }

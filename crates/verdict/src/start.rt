@@ -1,22 +1,21 @@
 // Obligation 1: zone 1 holds the start state.
 ghost use Rattle.meaning.specs.Check.Obligations.{starts};
-ghost use Rattle.meaning.specs.Text.ModelTable.{decode};
 ghost use Rattle.meaning.specs.Text.ProposalReader as reader;
 ghost use Rattle.meaning.specs.Text.ProposalTable as table;
-ghost use Rattle.model_table.specs.Right.{RightTable};
+ghost use Rattle.model_table.specs.Held.{model_of};
 ghost use Rattle.verdict.specs.Judged.{Judged};
 
 use crate::answer::{Fault, Found};
-use crate::found::holds;
 use bounds::first_broken;
 use home::{Home, same_home, variables};
 use machine::{start_given, tasks_of};
+use model_table::ModelTable;
 use zone_table::{bounds_start, home_at};
 
 // It holds, or it fails by kind 4 or 5. All variables of the start are 0, so its matrix is.
-pub(crate) fn try_start(model: &[u32], zones: &[u32]) -> Found
-    requires { RightTable model.now × reader.Given (decode model.now) zones.now }
-    ensures { Judged (decode model.now) (table.decode zones.now) starts result }
+pub(crate) fn try_start(model: &ModelTable, zones: &[u32]) -> Option<Found>
+    requires { reader.Given (model_of model.now) zones.now }
+    ensures { Judged (model_of model.now) (table.decode zones.now) starts result }
 {
     let state = start_given(model).state;
     let jobs = state.jobs;
@@ -26,20 +25,17 @@ pub(crate) fn try_start(model: &[u32], zones: &[u32]) -> Found
         count: state.count,
     };
     if !same_home(home, home_at(zones, 1)) {
-        return Found {
+        return Some(Found {
             fault: Fault::Elsewhere,
             state,
-        };
+        });
     }
     let count = state.count as usize;
     let n = variables(model, count);
     let m = [0i32; 289];
-    let b = first_broken(&m, n, [0usize; 17], [0i32; 17], zones, bounds_start(1));
-    if b.found {
-        return Found {
-            fault: Fault::Breaks(b.i as u32, b.j as u32),
-            state,
-        };
-    }
-    holds()
+    let b = first_broken(&m, n, [0usize; 17], [0i32; 17], zones, bounds_start(1))?;
+    Some(Found {
+        fault: Fault::Breaks(b.i as u32, b.j as u32),
+        state,
+    })
 }

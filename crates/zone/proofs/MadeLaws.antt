@@ -59,7 +59,7 @@ module _ (m : Model) (h : Home) (bs : List ℤ) (r : RightHome m h) (e : Empty b
 
 -- ---- the zone of one state
 
-module _ (m : Model) (r : RightModel m) (s : State) (l : S.Lendable m s) (b₁ b₂ : List ℤ) (w₁ : ClocksWritten s.clocks m.clocks b₁) (w₂ : JobsWritten b₁ m.clocks s.jobs s.count b₂) where
+module _ (m : Model) (r : RightModel m) (s : State) (l : S.Lendable m s) (b₁ b₂ : List ℤ) (w₁ : ClocksWritten (take m.clocks s.clocks) b₁) (w₂ : JobsWritten b₁ (length (take m.clocks s.clocks)) (take s.count s.jobs) b₂) where
   -- the zone that is made, the state, and the bounds that its zone has
   abbrev made : Zone
   made = record { home = record { location = s.location; tasks = map task_of s.jobs; count = s.count }; bounds = b₂ }
@@ -70,12 +70,12 @@ module _ (m : Model) (r : RightModel m) (s : State) (l : S.Lendable m s) (b₁ b
   abbrev all : List Bound
   all = clock_bounds 1 (take m.clocks s.clocks) (queue_bounds 0 (suc (length (take m.clocks s.clocks))) queue)
 
-  all_written : Written all b₂ (m.clocks + 1 + 2 * s.count) []
+  all_written : Written all b₂ (length (take m.clocks s.clocks) + 1 + 2 * length (take s.count s.jobs)) []
   all_written =
-      let e = l.proper.clocks in
-      let n : m.clocks + 1 ≡ suc (length (take m.clocks s.clocks)) = omega arith in
-      subst (λ (v : ℕ). Written (clock_bounds 1 (take m.clocks s.clocks) (queue_bounds 0 v queue)) b₂ (m.clocks + 1 + 2 * s.count) []) n
-      (w₂.all (clock_bounds 1 (take m.clocks s.clocks) (queue_bounds 0 (m.clocks + 1) queue)) (w₁.all (queue_bounds 0 (m.clocks + 1) queue)))
+      let n : length (take m.clocks s.clocks) + 1 ≡ suc (length (take m.clocks s.clocks)) = omega arith in
+      w₂.all all
+      (subst (λ (v : ℕ). Written all b₁ (length (take m.clocks s.clocks) + 1) (queue_bounds 0 v queue)) (sym n)
+      (w₁.all (queue_bounds 0 (suc (length (take m.clocks s.clocks))) queue)))
 
   to_all : (b : Bound) → Memᴰ b (bounds_in b₂) → Memᴰ b all
   to_all b x = all_written.from b (inl x)

@@ -6,7 +6,7 @@ use mathlib.Core.List.{List, [], ◌∷◌, map, Memᴰ}
 use native.Mathlib.Omega.{arith}
 use lib.IntN.{pos}
 use lib.ListN.{length, get_or, take, length-map, get_or-map, get_or-eq_default}
-use lib.Seq.{get_or-take}
+use Rattle.std.proofs.lemmas.List.{length-take}
 use Rattle.meaning.specs.Model.{Bound, Model, Task, task_at, no_task}
 use Rattle.meaning.specs.Machine.State as M
 use Rattle.meaning.specs.Zones.Zone.{exactly, clock_bounds, queue_bounds}
@@ -14,6 +14,10 @@ use Rattle.meaning.specs.Text.RightModel.{Each, RightTask, RightBound, RightMode
 use Rattle.meaning.proofs.Numbers.{over_neg, under_neg}
 use Rattle.meaning.proofs.Lists.{mem_map_inv}
 use Rattle.meaning.proofs.Text.Choices.{by_lt}
+use Rattle.meaning.proofs.Text.Collects.{each_mem}
+use Rattle.meaning.specs.Text.ModelTable.{clocks}
+use Rattle.model_table.specs.Right.{RightTable}
+use Rattle.model_table.proofs.PartLaws.{clocks_is}
 use Rattle.home.specs.Stands.{RightHome}
 use Rattle.machine.specs.Stands.{job_of, task_of, cell_of, queue_of, no_job, Lendable}
 use Rattle.machine.specs.declared.State.{State}
@@ -21,12 +25,11 @@ use Rattle.machine.proofs.Arrays.{padded_length, padded_read}
 use Rattle.machine.proofs.QueueLaws.{order_is}
 use Rattle.zone.specs.ByCell.{SmallClocks, SmallJobs}
 
--- ---- lists
+-- a right table has at most so many clocks
+pub table_clocks : (t : List ℕ) → RightTable t → clocks t ≤ 4
+table_clocks t g = omega (arith, clocks_is t g, g.right.clocks)
 
-each_at : {A : Type 0} (P : A → Type 0) (l : List A) (k : ℕ) (d : A) → Each P l → k < length l → P (get_or l k d)
-each_at P [] k d e h = absurd (omega arith)
-each_at P (x ∷ l) zero d e h = e.0
-each_at P (x ∷ l) (suc k) d e h = each_at P l k d e.1 (omega arith)
+-- ---- lists
 
 each_make : {A : Type 0} (P : A → Type 0) (l : List A) → ((a : A) → Memᴰ a l → P a) → Each P l
 each_make P [] h = tt
@@ -37,15 +40,13 @@ each_take P zero l h = tt
 each_take P (suc n) [] h = tt
 each_take P (suc n) (x ∷ l) h = (h 0, each_take P n l (λ k. h (suc k)))
 
-take_short : {A : Type 0} (n : ℕ) (l : List A) → length (take n l) ≤ length l
-take_short zero l = omega arith
-take_short (suc n) [] = omega arith
-take_short (suc n) (x ∷ l) = let h = take_short n l in omega arith
-
 mem_get_d : {A : Type 0} (l : List A) (k : ℕ) (d : A) → k < length l → Memᴰ (get_or l k d) l
 mem_get_d [] k d h = absurd (omega arith)
 mem_get_d (x ∷ l) zero d h = Memᴰ.head refl
 mem_get_d (x ∷ l) (suc k) d h = Memᴰ.tail (mem_get_d l k d (omega arith))
+
+each_at : {A : Type 0} (P : A → Type 0) (l : List A) (k : ℕ) (d : A) → Each P l → k < length l → P (get_or l k d)
+each_at P l k d e h = each_mem P l e (get_or l k d) (mem_get_d l k d h)
 
 -- ---- tasks
 
@@ -98,7 +99,7 @@ module _ (m : Model) (s : State) (l : Lendable m s) where
   jobs_count = ap (λ (x : State). x.count) l.unused
 
   pub jobs_few : s.count ≤ 6
-  jobs_few = omega (arith, jobs_cells, jobs_count, length-map (take s.count s.jobs) job_of, take_short s.count s.jobs)
+  jobs_few = omega (arith, jobs_cells, jobs_count, length-map (take s.count s.jobs) job_of, length-take s.count s.jobs)
 
   unused_job : (k : ℕ) → s.count ≤ k → get_or s.jobs k no_job ≡ no_job
   unused_job k h =
@@ -130,8 +131,11 @@ module _ (m : Model) (s : State) (l : Lendable m s) where
         unused = λ k h. get_or-map task_of s.jobs k no_job ∙ ap task_of (unused_job k h);
       }
 
-  pub clocks_small : SmallClocks s.clocks
-  clocks_small = record { each = l.clocks }
+  pub clocks_few : RightModel m → length (take m.clocks s.clocks) ≤ 4
+  clocks_few r = omega (arith, l.proper.clocks, r.clocks)
+
+  pub clocks_small : SmallClocks (take m.clocks s.clocks)
+  clocks_small = record { each = λ k h. each_at (λ (c : ℕ). c ≤ 32000) (take m.clocks s.clocks) k 0 (each_take (λ (c : ℕ). c ≤ 32000) m.clocks s.clocks l.clocks) h }
 
   module _ (r : RightModel m) where
     job_small : (j : M.Job) → Memᴰ j (queue_of s.jobs s.count) → (j.done ≤ 32000) × (j.age ≤ 32000)
@@ -142,14 +146,12 @@ module _ (m : Model) (s : State) (l : Lendable m s) where
         let t = task_small m r j.task in
         (omega arith, omega arith)
 
-    pub jobs_small : SmallJobs s.jobs s.count
+    pub jobs_small : SmallJobs (take s.count s.jobs)
     jobs_small = record {
       each = λ k h.
-          let q = queue_of s.jobs s.count in
-          let c = jobs_count in
-          let e : get_or q k (job_of no_job) ≡ job_of (get_or s.jobs k no_job) = get_or-map job_of (take s.count s.jobs) k no_job ∙ ap job_of (get_or-take s.count s.jobs k no_job h) in
-          let w = job_small (get_or q k (job_of no_job)) (mem_get_d q k (job_of no_job) (omega arith)) in
-          subst (λ (j : M.Job). (j.done ≤ 32000) × (j.age ≤ 32000)) e w;
+          let js = take s.count s.jobs in
+          let w = job_small (get_or (map job_of js) k (job_of no_job)) (mem_get_d (map job_of js) k (job_of no_job) (omega (arith, length-map js job_of))) in
+          subst (λ (j : M.Job). (j.done ≤ 32000) × (j.age ≤ 32000)) (get_or-map job_of js k no_job) w;
     }
 
     pub bounds_right : (last : ℕ) → length (take m.clocks s.clocks) + (length (queue_of s.jobs s.count) + length (queue_of s.jobs s.count)) ≤ last

@@ -1,13 +1,13 @@
 -- Any two results that a contract allows coincide.
 -- Assumes nothing.
 use Prim.Native.Nat.{ℕ, ◌<◌}
+use Rattle.std.specs.Prelude.{Result, Ok, Err, IfOk, MatchResult}
 use mathlib.Core.Path.{◌≡◌, refl, sym, ◌∙◌, ap, subst}
 use mathlib.Core.Bool.{Bool, true, false}
-use mathlib.Core.List.{List, Memᴰ, List-discrete}
-use native.Mathlib.Decide.{ℕ_discrete}
+use mathlib.Core.List.{List, Memᴰ}
 use native.Mathlib.Omega.{arith}
 use lib.Dec.{eqb}
-use lib.IntN.{ℤ, pos, negsuc, ℤ_discrete}
+use lib.IntN.{ℤ, pos, negsuc}
 use lib.ListN.{length, get_or}
 use lib.Seq.{ext_get_or, get_or-take, length-take-le}
 use borrow.Author.Tests.{eqb-true, not-false}
@@ -19,11 +19,12 @@ use Rattle.meaning.proofs.Text.Choices.{by_lt}
 use Rattle.machine.specs.Stands.{state_of}
 use Rattle.machine.specs.declared.State.{State}
 use Rattle.zone.specs.declared.Zone.{Zone}
-use Rattle.zone.specs.declared.Made.{Made}
+use Rattle.refusals.specs.declared.Reason.{Reason}
+use Rattle.refusals.specs.declared.Reason.TheVariants.{NotProper}
 use Rattle.home.specs.declared.Home.{Home}
 use Rattle.zone_bounds.specs.Entries.{no_bound, is_bound, bounds_in}
 use Rattle.zone.specs.Stands.{order_of, bounds_of, zone_of, Lendable}
-use Rattle.zone.specs.Promise.{WidestZone, ExactZone, NotMade, MadeWidest, MadeExact}
+use Rattle.zone.specs.Promise.{WidestZone, ExactZone, MadeWidest, MadeExact}
 use Rattle.zone.proofs.Writes.{at, written_make, written_read}
 
 -- an array has its length
@@ -113,52 +114,16 @@ exact_once m s y z u v p q =
     zone_once m y z u v p.lendable q.lendable (p.location ∙ sym q.location) (p.order ∙ sym q.order)
     (λ x w. (q.bounds x).1 ((p.bounds x).0 w)) (λ x w. (p.bounds x).1 ((q.bounds x).0 w))
 
-not_made_once : (a b : Made) → NotMade a → NotMade b → a ≡ b
-not_made_once a b p q =
-    let n = p.refusal ∙ sym q.refusal in
-    let z = p.zone ∙ sym q.zone in
-    rw (n, z)
+-- each answer is of one kind, and what it holds is one
+made_once : (P : Type 0) (Q : Zone → Type 0) → ((y z : Zone) → Sized y → Sized z → Q y → Q z → y ≡ z) → (a b : Result Zone Reason) → IfOk a Sized → IfOk b Sized
+    → MatchResult a (λ z. P × Q z) (λ e. (P → ⊥) × (e ≡ NotProper)) → MatchResult b (λ z. P × Q z) (λ e. (P → ⊥) × (e ≡ NotProper)) → a ≡ b
+made_once P Q once (Ok y) (Ok z) u v p q = ap Ok (once y z u v p.1 q.1)
+made_once P Q once (Ok y) (Err e) u v p q = absurd (q.0 p.0)
+made_once P Q once (Err d) (Ok z) u v p q = absurd (p.0 q.0)
+made_once P Q once (Err d) (Err e) u v p q = ap Err (p.1 ∙ sym q.1)
 
--- two that are not unequal are equal
-made_decided : (a b : Made) → Dec (a ≡ b)
-made_decided a b = go (ℕ_discrete a.refusal b.refusal) (ℕ_discrete a.zone.home.location b.zone.home.location) (List-discrete ℕ_discrete a.zone.home.tasks b.zone.home.tasks)
-    (ℕ_discrete a.zone.home.count b.zone.home.count) (List-discrete ℤ_discrete a.zone.bounds b.zone.bounds)
-  where
-    go : Dec (a.refusal ≡ b.refusal) → Dec (a.zone.home.location ≡ b.zone.home.location) → Dec (a.zone.home.tasks ≡ b.zone.home.tasks) → Dec (a.zone.home.count ≡ b.zone.home.count) → Dec (a.zone.bounds ≡ b.zone.bounds)
-        → Dec (a ≡ b)
-    go (yes p) (yes q) (yes r) (yes s) (yes t) = yes (rw (p, q, r, s, t))
-    go (no p) q r s t = no (λ e. p (ap (λ (x : Made). x.refusal) e))
-    go (yes p) (no q) r s t = no (λ e. q (ap (λ (x : Made). x.zone.home.location) e))
-    go (yes p) (yes q) (no r) s t = no (λ e. r (ap (λ (x : Made). x.zone.home.tasks) e))
-    go (yes p) (yes q) (yes r) (no s) t = no (λ e. s (ap (λ (x : Made). x.zone.home.count) e))
-    go (yes p) (yes q) (yes r) (yes s) (no t) = no (λ e. t (ap (λ (x : Made). x.zone.bounds) e))
+pub made_widest_once : (t : List ℕ) (h : Home) (a b : Result Zone Reason) → IfOk a Sized → IfOk b Sized → MadeWidest t h a → MadeWidest t h b → a ≡ b
+made_widest_once t h a b u v p q = made_once _ _ (widest_once (decode t) h) a b u v p q
 
--- equal where something is so, and equal where it is not
-by_both : {P : Type 0} (a b : Made) → (P → a ≡ b) → ((P → ⊥) → a ≡ b) → a ≡ b
-by_both a b f g = go (made_decided a b)
-  where
-    go : Dec (a ≡ b) → a ≡ b
-    go (yes e) = e
-    go (no d) = g (λ p. d (f p))
-
-pub made_widest_once : (t : List ℕ) (h : Home) (a b : Made) → Sized a.zone → Sized b.zone → MadeWidest t h a → MadeWidest t h b → a ≡ b
-made_widest_once t h a b u v p q =
-    by_both a b
-    (λ g.
-    let x = p.usable g in
-    let y = q.usable g in
-    let r = x.0 ∙ sym y.0 in
-    let z = widest_once (decode t) h a.zone b.zone u v x.1 y.1 in
-    rw (r, z))
-    (λ f. not_made_once a b (p.unusable f) (q.unusable f))
-
-pub made_exact_once : (t : List ℕ) (s : State) (a b : Made) → Sized a.zone → Sized b.zone → MadeExact t s a → MadeExact t s b → a ≡ b
-made_exact_once t s a b u v p q =
-    by_both a b
-    (λ g.
-    let x = p.usable g in
-    let y = q.usable g in
-    let r = x.0 ∙ sym y.0 in
-    let z = exact_once (decode t) (state_of (decode t) s) a.zone b.zone u v x.1 y.1 in
-    rw (r, z))
-    (λ f. not_made_once a b (p.unusable f) (q.unusable f))
+pub made_exact_once : (t : List ℕ) (s : State) (a b : Result Zone Reason) → IfOk a Sized → IfOk b Sized → MadeExact t s a → MadeExact t s b → a ≡ b
+made_exact_once t s a b u v p q = made_once _ _ (exact_once (decode t) (state_of (decode t) s)) a b u v p q

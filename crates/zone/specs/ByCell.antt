@@ -1,11 +1,11 @@
 -- What the inner functions say of single entries: for their contracts, not for a reader to believe.
 -- Assumes nothing.
-use Rattle.std.specs.Prelude.{ℕ, ◌+◌, ◌*◌, ◌≤◌, ◌<◌, ◌/◌, ◌%◌, ◌≡◌, true, ◌⊎◌, ℤ, length, get_or, take}
-use mathlib.Core.List.{List, [], Memᴰ}
+use Rattle.std.specs.Prelude.{ℕ, ◌+◌, ◌*◌, ◌≤◌, ◌<◌, ◌/◌, ◌%◌, ◌≡◌, true, ◌⊎◌, ℤ, length, get_or}
+use mathlib.Core.List.{List, [], map, Memᴰ}
 use Rattle.meaning.specs.Numbers.{over, under}
 use Rattle.meaning.specs.Model.{Bound}
 use Rattle.meaning.specs.Zones.Zone.{clock_bounds, queue_bounds}
-use Rattle.machine.specs.Stands.{queue_of, no_job}
+use Rattle.machine.specs.Stands.{job_of, no_job}
 use Rattle.machine.specs.declared.Job.{Job}
 use Rattle.zone_bounds.specs.Entries.{no_bound, is_bound, entry_in, bounds_in}
 
@@ -43,18 +43,18 @@ pub record Written (all : List Bound) (b : List ℤ) (v : ℕ) (rest : List Boun
   pub to : (x : Bound) → Memᴰ x all → Memᴰ x (bounds_in b) ⊎ Memᴰ x rest
   pub from : (x : Bound) → Memᴰ x (bounds_in b) ⊎ Memᴰ x rest → Memᴰ x all
 
--- those of n clocks are written, and the rest is to come
-pub record ClocksWritten (cs : List ℕ) (n : ℕ) (b : List ℤ) : Type 0 where
-  pub all : (rest : List Bound) → Written (clock_bounds 1 (take n cs) rest) b (n + 1) rest
+-- those of the clocks are written, and the rest is to come
+pub record ClocksWritten (cs : List ℕ) (b : List ℤ) : Type 0 where
+  pub all : (rest : List Bound) → Written (clock_bounds 1 cs rest) b (length cs + 1) rest
 
--- those of the jobs are written too, where they were to come
-pub record JobsWritten (b : List ℤ) (n : ℕ) (js : List Job) (k : ℕ) (r : List ℤ) : Type 0 where
-  pub all : (all : List Bound) → Written all b (n + 1) (queue_bounds 0 (n + 1) (queue_of js k)) → Written all r (n + 1 + 2 * k) []
+-- those of the jobs are written too, behind n clocks, where they were to come
+pub record JobsWritten (b : List ℤ) (n : ℕ) (js : List Job) (r : List ℤ) : Type 0 where
+  pub all : (all : List Bound) → Written all b (n + 1) (queue_bounds 0 (n + 1) (map job_of js)) → Written all r (n + 1 + 2 * length js) []
 
 -- no clock is above 32,000
 pub record SmallClocks (cs : List ℕ) : Type 0 where
-  pub each : (k : ℕ) → get_or cs k 0 ≤ 32000
+  pub each : (k : ℕ) → k < length cs → get_or cs k 0 ≤ 32000
 
--- no job of the first n has more work done, or is older
-pub record SmallJobs (js : List Job) (n : ℕ) : Type 0 where
-  pub each : (k : ℕ) → k < n → ((get_or js k no_job).done ≤ 32000) × ((get_or js k no_job).age ≤ 32000)
+-- no job has more work done, or is older
+pub record SmallJobs (js : List Job) : Type 0 where
+  pub each : (k : ℕ) → k < length js → ((get_or js k no_job).done ≤ 32000) × ((get_or js k no_job).age ≤ 32000)

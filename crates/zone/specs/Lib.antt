@@ -1,4 +1,3 @@
 pub mod Stands
 pub mod Promise
 pub mod ByCell
-pub mod ByModel

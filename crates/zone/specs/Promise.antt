@@ -1,15 +1,16 @@
 -- What the zone's functions promise, on every table, location with a queue order, and state.
 -- Assumes nothing.
-use Rattle.std.specs.Prelude.{◌≡◌, ◌↔◌, ℕ, pos, replicate}
+use Rattle.std.specs.Prelude.{◌≡◌, ◌↔◌, ℕ, Result, MatchResult}
 use mathlib.Core.List.{List, Memᴰ}
 use Rattle.meaning.specs.Model.{Bound, Model}
 use Rattle.meaning.specs.Machine.State as M
 use Rattle.meaning.specs.Zones.Proper.{Proper}
 use Rattle.meaning.specs.Zones.Zone as Z
 use Rattle.meaning.specs.Zones.Reached.{home_of}
-use Rattle.meaning.specs.Text.Refusals.{not_proper}
 use Rattle.meaning.specs.Text.ModelReader.{Given}
 use Rattle.meaning.specs.Text.ModelTable.{decode}
+use Rattle.refusals.specs.declared.Reason.{Reason}
+use Rattle.refusals.specs.declared.Reason.TheVariants.{NotProper}
 use Rattle.home.specs.Stands as H
 use Rattle.home.specs.Stands.{RightHome}
 use Rattle.home.specs.declared.Home.{Home}
@@ -17,7 +18,6 @@ use Rattle.machine.specs.Stands.{state_of}
 use Rattle.machine.specs.Promise.{UsableState}
 use Rattle.machine.specs.declared.State.{State}
 use Rattle.zone.specs.declared.Zone.{Zone}
-use Rattle.zone.specs.declared.Made.{Made}
 use Rattle.zone.specs.Stands.{order_of, bounds_of, zone_of, Lendable}
 
 -- ---- what may be asked for
@@ -44,23 +44,12 @@ pub record ExactZone (m : Model) (s : M.State) (z : Zone) : Type 0 where
   pub bounds : (b : Bound) → Memᴰ b (bounds_of z) ↔ Memᴰ b (Z.zone_of s).bounds
   pub holds : (x : M.State) → Z.InZone m (zone_of z) x ↔ (x ≡ s)
 
--- a zone of nothing
-abbrev pub no_zone : Zone
-no_zone = record { home = record { location = 0; tasks = replicate 6 0; count = 0 }; bounds = replicate 289 (pos 0) }
-
--- refusal 13, and no zone
-pub record NotMade (r : Made) : Type 0 where
-  pub refusal : r.refusal ≡ not_proper
-  pub zone : r.zone ≡ no_zone
-
 -- ---- the promises
 
 -- "What isn't proper or names what the model lacks is refused with 13"; else the widest zone
-pub record MadeWidest (t : List ℕ) (h : Home) (r : Made) : Type 0 where
-  pub unusable : (UsableHome t h → ⊥) → NotMade r
-  pub usable : UsableHome t h → (r.refusal ≡ 0) × WidestZone (decode t) h r.zone
+abbrev pub MadeWidest : List ℕ → Home → Result Zone Reason → Type 0
+MadeWidest t h r = MatchResult r (λ z. UsableHome t h × WidestZone (decode t) h z) (λ e. (UsableHome t h → ⊥) × (e ≡ NotProper))
 
 -- the same for the zone of one state
-pub record MadeExact (t : List ℕ) (s : State) (r : Made) : Type 0 where
-  pub unusable : (UsableState t s → ⊥) → NotMade r
-  pub usable : UsableState t s → (r.refusal ≡ 0) × ExactZone (decode t) (state_of (decode t) s) r.zone
+abbrev pub MadeExact : List ℕ → State → Result Zone Reason → Type 0
+MadeExact t s r = MatchResult r (λ z. UsableState t s × ExactZone (decode t) (state_of (decode t) s) z) (λ e. (UsableState t s → ⊥) × (e ≡ NotProper))

@@ -8,47 +8,24 @@ use crate::Zone;
 fn in_range(c: i32) -> bool
     ensures { (result ≡ true) ↔ InRange c }
 {
-    if Zone::MOST < c {
-        return false;
-    }
-    if c < 0 - Zone::MOST {
-        return false;
-    }
-    true
+    (-Zone::MOST..=Zone::MOST).contains(&c)
 }
 
 // May c stand at place k, of n variables?
 fn right_entry(c: i32, k: usize, n: usize) -> bool
     ensures { (result ≡ true) ↔ RightEntry n k c }
 {
-    if c == Zone::NO_BOUND {
-        return true;
-    }
     let i = k / Zone::VARIABLES;
     let j = k % Zone::VARIABLES;
-    if i == j {
-        return false;
-    }
-    if n <= i {
-        return false;
-    }
-    if n <= j {
-        return false;
-    }
-    in_range(c)
+    c == Zone::NO_BOUND || i != j && i < n && j < n && in_range(c)
 }
 
 // May all the entries stand, of n variables?
 pub(crate) fn right_entries(bounds: &[i32; 289], n: usize) -> bool
     ensures { (result ≡ true) ↔ RightEntries n bounds.now }
 {
-    let mut k: usize = 0;
-    while k < 289 {
-        if right_entry(bounds[k], k, n) {
-            k += 1;
-        } else {
-            return false;
-        }
-    }
-    true
+    bounds
+        .iter()
+        .enumerate()
+        .all(|(k, &c)| right_entry(c, k, n))
 }

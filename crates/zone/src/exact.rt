@@ -1,5 +1,5 @@
 // The bounds of exactly one state: both bounds of each clock and age against 0, and of each running sum against the one ahead.
-ghost use Rattle.std.specs.Prelude.{◌≡◌, ◌+◌, ◌*◌, ◌≤◌, ◌<◌, pos, neg_ℤ, set};
+ghost use Rattle.std.specs.Prelude.{◌≡◌, ◌+◌, ◌*◌, ◌≤◌, ◌<◌, pos, neg_ℤ, length, set};
 ghost use Rattle.zone.specs.ByCell.{Empty, ClocksWritten, JobsWritten, SmallClocks, SmallJobs};
 
 use crate::Zone;
@@ -19,39 +19,34 @@ fn both(bounds: &mut [i32; 289], i: usize, j: usize, v: u32)
 {
     let c = v as i32;
     bounds[i * Zone::VARIABLES + j] = c;
-    bounds[j * Zone::VARIABLES + i] = 0 - c;
+    bounds[j * Zone::VARIABLES + i] = -c;
 }
 
-// The bounds of each of n clocks against 0.
-pub(crate) fn of_clocks(clocks: [u32; 4], n: usize) -> [i32; 289]
-    requires { (n ≤ 4) × SmallClocks clocks }
-    ensures { ClocksWritten clocks n result }
+// The bounds of each clock against 0.
+pub(crate) fn of_clocks(clocks: &[u32]) -> [i32; 289]
+    requires { (length clocks.now ≤ 4) × SmallClocks clocks.now }
+    ensures { ClocksWritten clocks.now result }
 {
-    let mut r = [Zone::NO_BOUND; 289];
-    let mut k: usize = 0;
-    while k < n {
-        both(&mut r, k + 1, 0, clocks[k]);
-        k += 1;
+    let mut r = no_bounds();
+    for (k, &clock) in clocks.iter().enumerate() {
+        both(&mut r, k + 1, 0, clock);
     }
     r
 }
 
-// The bounds with those of the jobs: each running sum against the one ahead, and each age against 0.
-pub(crate) fn with_jobs(bounds: [i32; 289], n: usize, jobs: [Job; 6], count: usize) -> [i32; 289]
-    requires { (n ≤ 4) × (count ≤ 6) × SmallJobs jobs count }
-    ensures { JobsWritten bounds n jobs count result }
+// The bounds with those of the jobs, behind n clocks: each running sum against the one ahead, and each age against 0.
+pub(crate) fn with_jobs(bounds: [i32; 289], n: usize, jobs: &[Job]) -> [i32; 289]
+    requires { (n ≤ 4) × (length jobs.now ≤ 6) × SmallJobs jobs.now }
+    ensures { JobsWritten bounds n jobs.now result }
 {
     let mut r = bounds;
-    let mut ahead: usize = 0;
+    let mut ahead = 0;
     let mut sum = n + 1;
-    let mut k: usize = 0;
-    while k < count {
-        let job = jobs[k];
+    for job in jobs {
         both(&mut r, sum, ahead, job.done);
         both(&mut r, sum + 1, 0, job.age);
         ahead = sum;
         sum += 2;
-        k += 1;
     }
     r
 }

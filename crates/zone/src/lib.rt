@@ -8,24 +8,19 @@ mod exact;
 mod lendable;
 mod making;
 
-use home::Home;
+use home::{Home, is_home};
 pub use lendable::is_zone;
-use machine::State;
-use making::{exactly_given, not_made, widest_given};
+use machine::{State, is_lendable};
+use making::{exact_zone, widest_zone};
+use model_table::ModelTable;
 use model_text::is_model;
+use refusals::Reason;
 
-// The bound on variable i minus variable j stands at i * 17 + j. Bounds that are not written are `NO_BOUND`.
+// The bound on variable i minus variable j stands at i * 17 + j, in an array by value of fixed size. Bounds that are not written are `NO_BOUND`.
 #[derive(Clone, Copy)]
 pub struct Zone {
     pub home: Home,
     pub bounds: [i32; 289],
-}
-
-// A zone that was made, or the number of the refusal and a zone of nothing.
-#[derive(Clone, Copy)]
-pub struct Made {
-    pub refusal: u32,
-    pub zone: Zone,
 }
 
 impl Zone {
@@ -38,23 +33,25 @@ impl Zone {
     // "No bound": a value of its own.
     pub const NO_BOUND: i32 = 1_000_000_000;
 
-    // The widest zone of a location and queue. 13: the table, the location or the queue can't be lent.
-    pub fn widest(model: &[u32], home: Home) -> Made
+    /// The widest zone of a location and queue. `NotProper`: the table, the location or the queue can't be lent.
+    pub fn widest(model: &[u32], home: Home) -> Result<Zone, Reason>
         ensures { MadeWidest model.now home result }
     {
-        if is_model(model) {
-            return widest_given(model, home);
+        if is_model(model) && is_home(&ModelTable { cells: model }, home) {
+            Ok(widest_zone(home))
+        } else {
+            Err(Reason::NotProper)
         }
-        not_made()
     }
 
-    // The zone that holds exactly one given state. 13: the table or the state can't be lent.
-    pub fn exactly(model: &[u32], state: State) -> Made
+    /// The zone that holds exactly one given state. `NotProper`: the table or the state can't be lent.
+    pub fn exactly(model: &[u32], state: State) -> Result<Zone, Reason>
         ensures { MadeExact model.now state result }
     {
-        if is_model(model) {
-            return exactly_given(model, state);
+        if is_model(model) && is_lendable(&ModelTable { cells: model }, state) {
+            Ok(exact_zone(&ModelTable { cells: model }, state))
+        } else {
+            Err(Reason::NotProper)
         }
-        not_made()
     }
 }

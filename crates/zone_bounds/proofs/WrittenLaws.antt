@@ -7,12 +7,12 @@ use Prim.Native.Nat.{ℕ, ◌+◌, ◌/◌, ◌%◌, ◌≤◌, ◌<◌}
 use native.Mathlib.Omega.{arith}
 use lib.IntN.{ℤ}
 use borrow.Author.Tests.{ne_eqb}
+use Rattle.std.specs.Prelude.{Option, Some}
 use Rattle.meaning.specs.Numbers.{over, under}
 use Rattle.meaning.specs.Model.{Bound}
 use Rattle.meaning.specs.Text.ModelTable.{collect}
 use Rattle.meaning.specs.Inner.Bounds.{bound}
 use Rattle.bounds.specs.Matrix.{Size}
-use Rattle.bounds.specs.declared.tightening.Tight.{Tight}
 use Rattle.zone_bounds.specs.Narrowed.{bound_size, Workable, Narrows}
 use Rattle.zone_bounds.specs.Entries.{is_bound, entry_in, bounds_in}
 use Rattle.zone_bounds.proofs.LoopLaws.{table_first, table_next, table_same}
@@ -41,17 +41,18 @@ not_below c s h = go (is_bound c) refl
     go false e = refl
 
 module _ (l : List ℤ) where
-  pub written_first : (t : Tight) → Workable t → Narrows (written_to l 0) t t
-  written_first t u = table_first (λ (x : List Bound). x) (λ x. x ∷ []) refl (λ xs ys. refl) (λ x. refl) (λ q. is_bound (entry_in l q)) (written l) t u
+  pub written_first : (m : List ℤ) → Workable m → Narrows (written_to l 0) (Some m) (Some m)
+  written_first m u = table_first (λ (x : List Bound). x) (λ x. x ∷ []) refl (λ xs ys. refl) (λ x. refl) (λ q. is_bound (entry_in l q)) (written l) m u
 
-  pub written_next : (k : ℕ) (t r s : Tight) → is_bound (entry_in l k) ≡ true → Narrows (written_to l k) t r → Narrows (written l k ∷ []) r s → Narrows (written_to l (k + 1)) t s
-  written_next k t r s e a b =
-      table_next (λ (x : List Bound). x) (λ x. x ∷ []) refl (λ xs ys. refl) (λ x. refl) (λ q. is_bound (entry_in l q)) (written l) k t r s e a b
+  pub written_next : (k : ℕ) (m : List ℤ) (r s : Option (List ℤ)) → is_bound (entry_in l k) ≡ true → Narrows (written_to l k) (Some m) r → Narrows (written l k ∷ []) r s
+      → Narrows (written_to l (k + 1)) (Some m) s
+  written_next k m r s e a b =
+      table_next (λ (x : List Bound). x) (λ x. x ∷ []) refl (λ xs ys. refl) (λ x. refl) (λ q. is_bound (entry_in l q)) (written l) k m r s e a b
 
-  pub written_same : (k : ℕ) (t r : Tight) → is_bound (entry_in l k) ≡ false → Narrows (written_to l k) t r → Narrows (written_to l (k + 1)) t r
-  written_same k t r e a =
-      table_same (λ (x : List Bound). x) (λ x. x ∷ []) refl (λ xs ys. refl) (λ x. refl) (λ q. is_bound (entry_in l q)) (written l) k t r e a
+  pub written_same : (k : ℕ) (m : List ℤ) (r : Option (List ℤ)) → is_bound (entry_in l k) ≡ false → Narrows (written_to l k) (Some m) r → Narrows (written_to l (k + 1)) (Some m) r
+  written_same k m r e a =
+      table_same (λ (x : List Bound). x) (λ x. x ∷ []) refl (λ xs ys. refl) (λ x. refl) (λ q. is_bound (entry_in l q)) (written l) k m r e a
 
-pub written_all : (l : List ℤ) (t r : Tight) → Narrows (written_to l 289) t r → Narrows (bounds_in l) t r
+pub written_all : (l m : List ℤ) (r : Option (List ℤ)) → Narrows (written_to l 289) (Some m) r → Narrows (bounds_in l) (Some m) r
 unfolding bounds_in
-written_all l t r a = a
+written_all l m r a = a

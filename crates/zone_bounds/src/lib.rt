@@ -1,8 +1,8 @@
 // The matrix of a zone: nothing is known, then properness, then the bounds that its author wrote.
 //
 // A matrix is over all 17 variables; one that a zone does not have is bounded by nothing. It starts
-// where nothing is known and is narrowed by one bound after the other; where none is left it is
-// empty, and stays so.
+// where nothing is known and is narrowed by one bound after the other, as long as a solution is
+// left.
 #![tactic(auto)]
 
 mod narrowing;
@@ -11,7 +11,7 @@ mod properness;
 mod states;
 mod written;
 
-pub use narrowing::narrow;
+pub use narrowing::{narrow, within};
 pub use numbers::{less, negated};
 pub use states::zone_matrix;
 

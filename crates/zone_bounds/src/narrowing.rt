@@ -1,38 +1,29 @@
 // A matrix over all 17 variables, narrowed by one bound after the other.
-ghost use Rattle.std.specs.Prelude.{◌<◌, [], ◌∷◌};
+ghost use Rattle.std.specs.Prelude.{◌<◌, [], ◌∷◌, Some, IfSome};
 ghost use Rattle.meaning.specs.Inner.Bounds.{bound};
 ghost use Rattle.bounds.specs.Matrix.{Size};
-ghost use Rattle.zone_bounds.specs.Narrowed.{bound_size, Workable, Narrowed, Narrows};
+ghost use Rattle.zone_bounds.specs.Narrowed.{bound_size, Workable, Narrows};
 
-use bounds::{Tight, tighten, top};
+use bounds::{Matrix, tighten};
 
-// The matrix of which nothing is known.
-pub(crate) fn widest() -> Tight
-    ensures { Narrowed [] result }
-{
-    Tight {
-        empty: false,
-        m: top(),
-    }
-}
-
-// The matrix with "variable i minus variable j is at most c" too.
-pub fn narrow(t: Tight, i: usize, j: usize, c: i32) -> Tight
+// The matrix with "variable i minus variable j is at most c" too; none where nothing is left. That it
+// is workable stays a clause: the fact holds the raw matrix that this one comes from, and a type keeps
+// only what has one proof.
+pub fn within(m: Matrix, i: usize, j: usize, c: i32) -> Option<Matrix>
     requires i_bound { (i < 17) × (j < 17) }
     requires size { Size c bound_size }
-    requires workable { Workable t }
+    requires workable { Workable m }
+    ensures { Narrows (bound i j c ∷ []) (Some m) result }
+{
+    tighten(m, 17, i, j, c)
+}
+
+// The same of what may be none already, and stays none.
+pub fn narrow(t: Option<Matrix>, i: usize, j: usize, c: i32) -> Option<Matrix>
+    requires i_bound { (i < 17) × (j < 17) }
+    requires size { Size c bound_size }
+    requires workable { IfSome t Workable }
     ensures { Narrows (bound i j c ∷ []) t result }
 {
-    if t.empty {
-        return t;
-    }
-    let m = t.m;
-    let r = tighten(m, 17, i, j, c);
-    if r.empty {
-        return Tight {
-            empty: true,
-            m: [0i32; 289],
-        };
-    }
-    r
+    within(t?, i, j, c)
 }

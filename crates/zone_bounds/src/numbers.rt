@@ -3,7 +3,7 @@ ghost use Rattle.std.specs.Prelude.{◌≡◌, ◌≤◌, pos, neg_ℤ, ◌-ℤ�
 ghost use Rattle.std.proofs.Math.IntN.{sub_ℕ};
 ghost use Rattle.bounds.specs.Matrix.{Size};
 
-// a minus b.
+// a minus b. Both are far below 2 ^ 31, so try_from would answer a Result that can't fail.
 pub fn less(a: u32, b: u32) -> i32
     requires { (a ≤ 1000000) × (b ≤ 1000000) }
     ensures { result ≡ sub_ℕ a b }

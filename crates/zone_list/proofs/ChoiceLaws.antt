@@ -1,60 +1,37 @@
 -- Laws of the choices of positions, counted release by release.
 -- Assumes nothing.
-use mathlib.Core.Path.{◌≡◌, sym, ◌∙◌, ap}
+use mathlib.Core.Path.{◌≡◌, refl, sym, ◌∙◌, ap}
 use mathlib.Core.List.{List, [], ◌∷◌}
-use Prim.Native.Nat.{ℕ, zero, suc, ◌+◌, ◌-◌, ◌*◌, ◌≤◌, ◌<◌}
+use Prim.Native.Nat.{ℕ, zero, suc, ◌+◌, ◌-◌, ◌*◌, ◌^◌, ◌≤◌, ◌<◌}
 use native.Mathlib.Omega.{arith}
-use lib.ListN.{length, drop, drop_of_length-le, get_or, length-append}
+use Rattle.std.proofs.Math.Nat.{mul-le-mul_right, pow-succ', pow-le-pow_right}
+use lib.ListN.{length, take, drop, get_or, length-append}
+use lib.Seq.{take-length}
 use Rattle.meaning.specs.Lists.{insert_at}
 use Rattle.meaning.specs.Model.{Model}
 use Rattle.meaning.specs.Machine.Place.{behind}
 use Rattle.meaning.specs.Zones.Steps.{choices}
 use Rattle.meaning.proofs.Lists.{length_insert_at}
 use Rattle.meaning.proofs.Hooks.{behind_le}
-use Rattle.meaning.proofs.Zones.Choices.{choices_from, choices_before, choices_from_lem, count_more, before_first, before_turn, before_all, choices_split}
-use Rattle.home.proofs.Walks.{rest_at}
+use Rattle.meaning.proofs.Zones.Choices.{choices_from, choices_before, choices_from_lem, choices_one, count_more, before_first, before_turn, before_all, choices_split}
 
 -- ---- how many there can be
 
--- n times b
-abbrev times : ℕ → ℕ → ℕ
-times zero b = 0
-times (suc n) b = b + times n b
-
-times_le : (b n k : ℕ) → n ≤ k → times n b ≤ times k b
-times_le b zero k h = omega arith
-times_le b (suc n) zero h = absurd (omega arith)
-times_le b (suc n) (suc k) h = let r = times_le b n k (omega arith) in omega arith
-
--- at most 7 positions for each release
-abbrev most : ℕ → ℕ
-most zero = 1
-most (suc n) = 7 * most n
-
-most_four : (n : ℕ) → n ≤ 4 → most n ≤ 2401
-most_four zero h = omega arith
-most_four (suc zero) h = omega arith
-most_four (suc (suc zero)) h = omega arith
-most_four (suc (suc (suc zero))) h = omega arith
-most_four (suc (suc (suc (suc zero)))) h = omega arith
-most_four (suc (suc (suc (suc (suc n))))) h = absurd (omega arith)
-
-from_few : (m : Model) (t : ℕ) (ts o : List ℕ) (b : ℕ) → ((p : ℕ) → length (choices m ts (insert_at p t o)) ≤ b) → (n p : ℕ) → length (choices_from m t ts o p n) ≤ times n b
+from_few : (m : Model) (t : ℕ) (ts o : List ℕ) (b : ℕ) → ((p : ℕ) → length (choices m ts (insert_at p t o)) ≤ b) → (n p : ℕ) → length (choices_from m t ts o p n) ≤ n * b
 from_few m t ts o b f zero p = omega arith
 from_few m t ts o b f (suc n) p = omega (arith, count_more m t ts o p n, f p, from_few m t ts o b f n (suc p))
 
-choices_few : (m : Model) (ts o : List ℕ) → length o + length ts ≤ 6 → length (choices m ts o) ≤ most (length ts)
+-- at most 7 positions for each release
+choices_few : (m : Model) (ts o : List ℕ) → length o + length ts ≤ 6 → length (choices m ts o) ≤ 7 ^ length ts
 choices_few m [] o h = omega arith
 choices_few m (t ∷ ts) o h =
-    let b = most (length ts) in
     let n = suc (length o - behind m t o) in
-    let f = from_few m t ts o b (λ p. choices_few m ts (insert_at p t o) (omega (arith, length_insert_at p t o))) n (behind m t o) in
+    let f = from_few m t ts o (7 ^ length ts) (λ p. choices_few m ts (insert_at p t o) (omega (arith, length_insert_at p t o))) n (behind m t o) in
     let e = ap length (choices_from_lem m t ts o) in
-    let s : times 7 b ≡ 7 * b = omega arith in
-    omega (arith, times_le b n 7 (omega arith))
+    omega (arith, mul-le-mul_right {m = n} {n = 7} (7 ^ length ts) (omega arith), pow-succ' 7 (length ts))
 
 pub choices_most : (m : Model) (ts o : List ℕ) → length o + length ts ≤ 6 → length ts ≤ 4 → length (choices m ts o) ≤ 2401
-choices_most m ts o h g = omega (arith, choices_few m ts o h, most_four (length ts) g)
+choices_most m ts o h g = omega (arith, choices_few m ts o h, pow-le-pow_right {n = 7} (omega arith) {j = 4} g)
 
 -- ---- a loop over the positions of one release
 
@@ -90,10 +67,34 @@ module _ (m : Model) (t : ℕ) (ts o : List ℕ) where
     pub counting_end : length o < p → r ≡ length (choices m (t ∷ ts) o)
     counting_end h = let e : p ≡ length o + 1 = omega (arith, w.high) in w.is ∙ ap (choices_before m t ts o) e ∙ before_all m t ts o
 
--- a release and those behind it
-pub choices_next : (m : Model) (ts o : List ℕ) (k t : ℕ) → k < length ts → t ≡ get_or ts k 0 → choices m (t ∷ drop (k + 1) ts) o ≡ choices m (drop k ts) o
-choices_next m ts o k t h e = ap (λ (l : List ℕ). choices m l o) (sym (rest_at ts k t h e))
+-- ---- a release and those behind it, as a slice pattern takes them
 
--- behind the last release there is one choice
-pub choices_done : (m : Model) (ts o : List ℕ) (k : ℕ) → length ts ≤ k → 1 ≡ length (choices m (drop k ts) o)
-choices_done m ts o k h = sym (ap (λ (l : List ℕ). length (choices m l o)) (drop_of_length-le ts h))
+-- those behind the first
+abbrev pub behind_first : List ℕ → List ℕ
+behind_first ts = take (length ts - 1) (drop 1 ts)
+
+pub first_and_rest : (ts : List ℕ) → 0 < length ts → ts ≡ get_or ts 0 0 ∷ behind_first ts
+first_and_rest [] h = absurd (omega arith)
+first_and_rest (t ∷ ts) h = let n : suc (length ts) - 1 ≡ length ts = omega arith in rw n (ap (λ (l : List ℕ). t ∷ l) (sym (take-length ts)))
+
+pub rest_length : (ts : List ℕ) → length (behind_first ts) ≡ length ts - 1
+rest_length [] = refl
+rest_length (t ∷ ts) = let n : suc (length ts) - 1 ≡ length ts = omega arith in rw n (ap length (take-length ts))
+
+nothing_behind : (ts : List ℕ) → length (behind_first ts) ≡ 0 → behind_first ts ≡ []
+nothing_behind ts e = go (behind_first ts) e
+  where
+    go : (l : List ℕ) → length l ≡ 0 → l ≡ []
+    go [] e = refl
+    go (x ∷ l) e = absurd (omega arith)
+
+module _ (m : Model) (ts o : List ℕ) (h : 0 < length ts) where
+  pub choices_first : length (choices m (get_or ts 0 0 ∷ behind_first ts) o) ≡ length (choices m ts o)
+  choices_first = ap (λ (l : List ℕ). length (choices m l o)) (sym (first_and_rest ts h))
+
+  -- the last release has a position for each place from its first on
+  pub choices_last : length (behind_first ts) ≡ 0 → length o + 1 - behind m (get_or ts 0 0) o ≡ length (choices m ts o)
+  choices_last e =
+      let one : length (choices m (get_or ts 0 0 ∷ behind_first ts) o) ≡ length (choices m (get_or ts 0 0 ∷ []) o) =
+      ap (λ (l : List ℕ). length (choices m (get_or ts 0 0 ∷ l) o)) (nothing_behind ts e) in
+      omega (arith, behind_le m (get_or ts 0 0) o, choices_one m (get_or ts 0 0) o, choices_first)

@@ -6,8 +6,8 @@ use mathlib.Core.Option.{some}
 use Prim.Native.Nat.{ℕ, ◌+◌, ◌-◌, ◌≤◌, ◌<◌}
 use native.Mathlib.Omega.{arith}
 use native.Mathlib.Numerals.{add-one}
-use lib.ListN.{length, drop, drop_of_length-le, take, set, get_or, get_elem?}
-use lib.Seq.{take-suc-set}
+use lib.ListN.{length, length-drop, drop, drop_of_length-le, take, set, get_or, get_elem?}
+use lib.Seq.{take-suc-set, take-length}
 use Rattle.bounds.proofs.Store.{stored_n, beyond_n}
 use Rattle.meaning.specs.Lists.{insert_at}
 use Rattle.meaning.specs.Model.{Model}
@@ -20,6 +20,10 @@ use Rattle.home.proofs.Walks.{rest_at}
 use Rattle.zone_list.specs.declared.choice.Ahead.{Ahead}
 use Rattle.zone_list.specs.Steps.{aheads}
 use Rattle.zone_list.specs.Chosen.{AheadIs, Numbered, ChoiceIs}
+
+-- what stands behind k others, as a range takes it
+pub rest_whole : (ts : List ℕ) (k : ℕ) → take (length ts - k) (drop k ts) ≡ drop k ts
+rest_whole ts k = let n : length ts - k ≡ length (drop k ts) = sym (length-drop k ts) in rw n (take-length (drop k ts))
 
 -- ---- one position
 

@@ -1,56 +1,19 @@
 -- Laws of the form of a step: it is tested cell by cell, and one step has one form.
 -- Assumes nothing.
-use mathlib.Core.Path.{◌≡◌, refl, sym, ◌∙◌, ap, ap₂, subst}
-use mathlib.Core.Bool.{Bool, true, false}
+use mathlib.Core.Path.{◌≡◌, refl, sym, ◌∙◌, ap, ap₂}
 use mathlib.Core.List.{List}
-use Prim.Native.Nat.{ℕ, ◌+◌, ◌-◌, ◌≤◌, ◌<◌}
+use Prim.Native.Nat.{ℕ, ◌-◌, ◌≤◌, ◌<◌}
 use native.Mathlib.Omega.{arith}
-use native.Mathlib.Decide.{dec_lt, ℕ_discrete}
-use lib.Dec.{ltb}
-use lib.ListN.{length, get_or, take, length-map, get_or-map, get_or-eq_default}
+use native.Mathlib.Decide.{dec_lt}
+use lib.ListN.{length, get_or, take, length-map, get_or-map}
 use lib.Seq.{ext_get_or, get_or-take, length-take-le}
-use borrow.Author.Tests.{ltb-true, ltb-false, lt-ltb, le-ltb}
 use Rattle.zone_list.specs.declared.form.Kind.{Kind}
 use Rattle.zone_list.specs.declared.form.Kind.TheVariants.{GoOn, Finish, Edge}
 use Rattle.zone_list.specs.declared.form.Step.{Step}
 use Rattle.zone_list.specs.Steps.{aheads, step_by, step_of, PlainTick, Formed}
-use Rattle.zone_list.specs.Chosen.{Numbered, CellIs}
-
--- ---- cell by cell
-
-module _ (n : ℕ) (ps : List ℕ) where
-  -- the first k cells are as they have to be
-  pub record Checked (k : ℕ) : Type 0 where
-    pub cells : (i : ℕ) → i < k → CellIs (ltb i n) (get_or ps i 0)
-
-  pub checked_start : Checked 0
-  checked_start = record { cells = λ i h. absurd (omega arith) }
-
-  pub checked_more : (k : ℕ) → Checked k → CellIs (ltb k n) (get_or ps k 0) → Checked (k + 1)
-  checked_more k w c = record { cells = λ i h. go i h (ℕ_discrete i k) }
-    where
-      go : (i : ℕ) → i < k + 1 → Dec (i ≡ k) → CellIs (ltb i n) (get_or ps i 0)
-      go i h (yes e) = subst (λ (j : ℕ). CellIs (ltb j n) (get_or ps j 0)) (sym e) c
-      go i h (no d) = w.cells i (omega arith)
-
-  pub checked_not : (k : ℕ) → (CellIs (ltb k n) (get_or ps k 0) → ⊥) → Numbered n ps → ⊥
-  checked_not k f w = f (go (ltb k n) refl)
-    where
-      go : (b : Bool) → ltb k n ≡ b → CellIs b (get_or ps k 0)
-      go true e = w.numbered k (ltb-true k n e)
-      go false e = w.unused k (ltb-false k n e)
-
-  pub checked_all : (k : ℕ) → Checked k → n ≤ k → length ps ≤ k → Numbered n ps
-  checked_all k w h l = record { numbered = λ i g. rw (lt-ltb i n g) at (w.cells i (omega arith)); unused = λ i g. go i g (dec_lt i k) }
-    where
-      go : (i : ℕ) → n ≤ i → Dec (i < k) → get_or ps i 0 ≡ 0
-      go i g (yes a) = rw (le-ltb i n g) at (w.cells i a)
-      go i g (no a) = get_or-eq_default ps 0 (omega arith)
+use Rattle.zone_list.specs.Chosen.{Numbered}
 
 -- ---- the whole
-
-pub form_made : (s : Step) → s.count ≤ 4 → PlainTick s.kind s.count → Numbered s.count s.positions → Formed s
-form_made s h t w = record { few = h; tick = t; numbered = w.numbered; unused = w.unused }
 
 pub form_numbered : (s : Step) → Formed s → Numbered s.count s.positions
 form_numbered s f = record { numbered = f.numbered; unused = f.unused }
@@ -76,13 +39,13 @@ cells_once a b n k la lb hn hk p q e =
 kind_once : (a b : Kind) (n k : ℕ) (ps qs : List ℕ) → PlainTick a n → PlainTick b k → step_by a (aheads n ps) ≡ step_by b (aheads k qs)
     → (a ≡ b) × (aheads n ps ≡ aheads k qs)
 kind_once GoOn GoOn n k ps qs p q e = (refl, rw (p, q))
-kind_once GoOn Finish n k ps qs p q e = absurd (let z : ◌≡◌ {A = ℕ} 0 1 = cc in omega arith)
-kind_once GoOn (Edge j) n k ps qs p q e = absurd (let z : ◌≡◌ {A = ℕ} 0 1 = cc in omega arith)
-kind_once Finish GoOn n k ps qs p q e = absurd (let z : ◌≡◌ {A = ℕ} 0 1 = cc in omega arith)
+kind_once GoOn Finish n k ps qs p q e = absurd (cc)
+kind_once GoOn (Edge j) n k ps qs p q e = absurd (cc)
+kind_once Finish GoOn n k ps qs p q e = absurd (cc)
 kind_once Finish Finish n k ps qs p q e = (refl, rw (p, q))
-kind_once Finish (Edge j) n k ps qs p q e = absurd (let z : ◌≡◌ {A = ℕ} 0 1 = cc in omega arith)
-kind_once (Edge i) GoOn n k ps qs p q e = absurd (let z : ◌≡◌ {A = ℕ} 0 1 = cc in omega arith)
-kind_once (Edge i) Finish n k ps qs p q e = absurd (let z : ◌≡◌ {A = ℕ} 0 1 = cc in omega arith)
+kind_once Finish (Edge j) n k ps qs p q e = absurd (cc)
+kind_once (Edge i) GoOn n k ps qs p q e = absurd (cc)
+kind_once (Edge i) Finish n k ps qs p q e = absurd (cc)
 kind_once (Edge i) (Edge j) n k ps qs p q e =
     let f : i ≡ j = cc in
     let g : aheads n ps ≡ aheads k qs = cc in

@@ -6,12 +6,11 @@ use mathlib.Core.List.Memᴰ
 use mathlib.Core.List.{List, [], ◌∷◌, map, Memᴰ}
 use mathlib.Core.Logic.{◌⊎◌, inl, inr, ◌↔◌}
 use mathlib.Core.Option.{Option, none, some}
-use Prim.Native.Nat.{ℕ, zero, suc, ◌+◌, ◌-◌, ◌≤◌}
+use Prim.Native.Nat.{ℕ, zero, suc, ◌+◌}
 use native.Mathlib.Omega.{arith}
 use lib.Dec.{eqb}
-use lib.ListN.{length, get_elem?, take, length-map}
-use lib.Seq.{length-take-le}
-use borrow.Author.Tests.{eq-eqb, eqb-true}
+use lib.ListN.{length, get_elem?}
+use borrow.Author.Tests.{eqb-true}
 use Rattle.meaning.specs.Lists.{nth1}
 use Rattle.meaning.specs.Model.{Edge, Model, leaves_at, released}
 use Rattle.meaning.specs.Machine.Release.{overflows_any}
@@ -22,7 +21,10 @@ use Rattle.meaning.proofs.Lists.{mem_map_inv}
 use Rattle.meaning.proofs.Zones.Listed.{leaving_listed}
 use Rattle.meaning.proofs.Zones.Choices.{places_over, places_free}
 use Rattle.home.specs.Asked.{leaves_if, leaves_by, released_if, released_by}
-use Rattle.zone_list.specs.Steps.{aheads, list_at}
+use Rattle.zone_list.specs.declared.form.Kind.TheVariants.{GoOn, Finish}
+use Rattle.zone_list.specs.declared.form.Step as L
+use Rattle.zone_list.specs.Steps.{step_of, list_at}
+use Rattle.zone_list.specs.Chosen.{jobs_ahead}
 
 -- ---- an edge in the list
 
@@ -65,8 +67,8 @@ leaving_of m l o k (e ∷ es) n ps h = go (Memᴰ.append_cases (leaving_by m l o
         (suc r.0, omega (arith, r.1), record { edge = q.edge; is = q.is; leaves = q.leaves; place = q.place })
 
 edge_not_tick : (k : ℕ) (ps : List ℕ) → (by_edge k ps ≡ go_on) ⊎ (by_edge k ps ≡ finish) → ⊥
-edge_not_tick k ps (inl e) = let z : ◌≡◌ {A = ℕ} 0 1 = cc in omega arith
-edge_not_tick k ps (inr e) = let z : ◌≡◌ {A = ℕ} 0 1 = cc in omega arith
+edge_not_tick k ps (inl e) = cc
+edge_not_tick k ps (inr e) = cc
 
 module _ (m : Model) (h : Home) where
   edge_of : (k : ℕ) (ps : List ℕ) → Memᴰ (by_edge k ps) (list_at m h) → Memᴰ (by_edge k ps) (leaving m h.location h.order 1 m.edges)
@@ -92,7 +94,7 @@ module _ (m : Model) (h : Home) where
       at : (j : ℕ) (x : Option Edge) → nth1 m.edges j ≡ x → leaves_if x h.location ≡ true → Memᴰ ps (places m (released_if m x) h.order)
           → Memᴰ (by_edge j ps) (list_at m h)
       at j none e l w = absurd (never l refl)
-      at zero (some d) e l w = absurd (let z : ◌≡◌ {A = ℕ} 0 1 = cc in omega arith)
+      at zero (some d) e l w = absurd (cc)
       at (suc i) (some d) e l w =
           Memᴰ.tail (Memᴰ.tail (leaving_listed m h.location h.order ps d m.edges 1 i (suc i) (omega arith) e l w))
 
@@ -122,6 +124,11 @@ module _ (m : Model) (h : Home) where
         )
 
 -- no position
-pub aheads_none : (n : ℕ) (ps : List ℕ) → n ≤ length ps → (eqb n 0 ≡ true) ↔ (aheads n ps ≡ [])
-aheads_none n ps h =
-    (λ e. ap (λ (i : ℕ). aheads i ps) (eqb-true n 0 e), λ e. eq-eqb n 0 (sym (length-map (take n ps) (λ (x : ℕ). x - 1) ∙ length-take-le n ps h) ∙ ap length e))
+pub jobs_ahead_none : (ps : List ℕ) → (eqb (length ps) 0 ≡ true) ↔ (jobs_ahead ps ≡ [])
+jobs_ahead_none [] = (λ e. refl, λ e. refl)
+jobs_ahead_none (p ∷ ps) = (λ e. absurd (let z = eqb-true (suc (length ps)) 0 e in omega arith), λ e. absurd (let z = ap length e in omega arith))
+
+-- a tick is in each list
+pub listed_tick : (m : Model) (h : Home) (s : L.Step) → (s.kind ≡ GoOn) ⊎ (s.kind ≡ Finish) → Memᴰ (step_of s) (list_at m h)
+listed_tick m h s (inl e) = rw e (Memᴰ.head refl)
+listed_tick m h s (inr e) = rw e (Memᴰ.tail (Memᴰ.head refl))

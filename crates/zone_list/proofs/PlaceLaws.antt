@@ -1,61 +1,30 @@
 -- Laws of the step at a place: which it is, that it is in the list, and that it is the only one there.
 -- Assumes nothing.
-use mathlib.Core.Path.{◌≡◌, refl, sym, ◌∙◌, ap, subst}
-use mathlib.Core.Bool.{true, false}
-use mathlib.Core.List.{List, [], ◌∷◌, Memᴰ}
+use mathlib.Core.Path.{◌≡◌, sym, ◌∙◌, ap}
+use mathlib.Core.Bool.{false}
+use mathlib.Core.List.{List, Memᴰ}
 use mathlib.Core.Option.{some}
-use Prim.Native.Nat.{ℕ, zero, suc, ◌≤◌, ◌<◌}
+use Prim.Native.Nat.{ℕ, zero, suc, ◌≤◌}
 use native.Mathlib.Omega.{arith}
 use lib.ListN.{length, get_elem?}
-use Rattle.bounds.proofs.Store.{zeros}
 use Rattle.meaning.specs.Lists.{nth1}
 use Rattle.meaning.specs.Model.{Model}
 use Rattle.meaning.specs.Machine.Release.{overflows_any}
 use Rattle.meaning.specs.Zones.Reached.{Home}
 use Rattle.meaning.specs.Zones.Steps.{by_edge, choices, places}
 use Rattle.meaning.proofs.Lists.{at_mem, map_at}
-use Rattle.meaning.proofs.Zones.Choices.{places_over, places_free}
+use Rattle.meaning.proofs.Zones.Choices.{places_free}
 use Rattle.home.specs.Asked.{released_by}
-use Rattle.zone_list.specs.declared.form.Kind.{Kind}
-use Rattle.zone_list.specs.declared.form.Kind.TheVariants.{GoOn, Finish, Edge}
+use Rattle.zone_list.specs.declared.form.Kind.TheVariants.{Edge}
 use Rattle.zone_list.specs.declared.form.Step.{Step}
-use Rattle.zone_list.specs.Steps.{aheads, PlainTick, step_of, Formed, list_at, Listed, StepAt}
+use Rattle.zone_list.specs.Steps.{aheads, step_of, list_at, Listed, StepAt}
 use Rattle.zone_list.specs.Chosen.{ChoiceIs}
-use Rattle.zone_list.specs.Counted.{PlaceIs}
-use Rattle.zone_list.specs.Placed.{bare_step, EdgeStep}
+use Rattle.zone_list.specs.Placed.{EdgeStep}
 use Rattle.zone_list.proofs.FormLaws.{step_once}
 
 -- ---- which it is
 
-bare_formed : (k : Kind) → PlainTick k 0 → Formed (bare_step k)
-bare_formed k p = record { few = omega arith; tick = p; numbered = λ i h. absurd (omega arith); unused = λ i h. zeros 4 i }
-
-module _ (m : Model) (h : Home) (x : ℕ) where
-  pub first_step : (r : Step) → r ≡ bare_step GoOn → x ≡ 1 → StepAt m h x r
-  first_step r q e = subst (StepAt m h x) (sym q) (record { formed = bare_formed GoOn refl; is = rw e })
-
-  pub second_step : (r : Step) → r ≡ bare_step Finish → x ≡ 2 → StepAt m h x r
-  second_step r q e = subst (StepAt m h x) (sym q) (record { formed = bare_formed Finish refl; is = rw e })
-
-  pub found_step : (k n : ℕ) (r : Step) → PlaceIs m h x k n → EdgeStep m h k n r → StepAt m h x r
-  found_step k n r p s = record { formed = s.formed; is = p.is ∙ s.is }
-
-only : {A : Type 0} (a : A) (l : List A) (n : ℕ) → l ≡ a ∷ [] → n < length l → get_elem? l n ≡ some a
-only a l n e h =
-    let one = ap length e in
-    let z : n ≡ 0 = omega arith in
-    rw (z, e)
-
 module _ (m : Model) (h : Home) (k n : ℕ) where
-  -- the releases overflow: no position
-  pub step_over : (r : Step) → r ≡ bare_step (Edge k) → overflows_any m (released_by m k) h.order ≡ true → n < length (places m (released_by m k) h.order) → EdgeStep m h k n r
-  step_over r q e l =
-      let p = places_over m (released_by m k) h.order e in
-      subst (EdgeStep m h k n) (sym q) (record {
-        formed = bare_formed (Edge k) tt;
-        is = map_at (by_edge k) (places m (released_by m k) h.order) n [] (only [] (places m (released_by m k) h.order) n p l);
-      })
-
   -- none does: a choice of positions
   pub step_chosen : (ts ps : List ℕ) (c : ℕ) → ts ≡ released_by m k → length ts ≡ c → c ≤ 4 → overflows_any m (released_by m k) h.order ≡ false → ChoiceIs m ts h.order n ps
       → EdgeStep m h k n (record { kind = Edge k; positions = ps; count = c })
@@ -75,7 +44,7 @@ module _ (m : Model) (h : Home) (k n : ℕ) where
 -- ---- in the list
 
 nth1_mem : {A : Type 0} (a : A) (l : List A) (x : ℕ) → nth1 l x ≡ some a → Memᴰ a l
-nth1_mem a l zero e = absurd (let z : ◌≡◌ {A = ℕ} 0 1 = cc in omega arith)
+nth1_mem a l zero e = absurd (cc)
 nth1_mem a l (suc k) e = at_mem a l k e
 
 -- it is in the list

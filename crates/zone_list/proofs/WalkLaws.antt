@@ -1,17 +1,19 @@
 -- Laws of the walk over the edges: what holds before each edge, and what follows after the last.
 -- Assumes nothing.
 use Prim.Native.Nat.{ℕ, zero, suc, ◌+◌, ◌-◌, ◌≤◌, ◌<◌}
+use Rattle.std.specs.Prelude as R
+use Rattle.std.specs.Prelude.{Some, None, IsSomeAnd}
 use mathlib.Core.Path.{◌≡◌, refl, sym, ap, ◌∙◌, subst}
 use mathlib.Core.Bool.{Bool, true, false, not, cond, ◌&&◌, ◌||◌}
 use mathlib.Core.List.{List, [], ◌∷◌, ◌++◌, map}
 use mathlib.Core.Logic.{◌⊎◌, inl, inr, ⊎_elim}
 use mathlib.Core.Option.{Option, some}
 use native.Mathlib.Omega.{arith}
-use native.Mathlib.Numerals.{add-one}
+use Rattle.std.proofs.Math.Bool.{and_assoc, and-true}
 use native.Mathlib.Decide.{dec_le}
-use lib.Dec.{eqb, leb}
+use lib.Dec.{eqb}
 use lib.ListN.{length, get_or, get_elem?, drop, drop_of_length-le, length-map, get_or-map}
-use borrow.Author.Tests.{ne_eqb, lt-leb}
+use borrow.Author.Tests.{ne_eqb}
 use Rattle.meaning.specs.Lists.{nth1}
 use Rattle.meaning.specs.Model.{Edge, Model, leaves_at, released}
 use Rattle.meaning.specs.Machine.Release.{overflows_any}
@@ -21,6 +23,7 @@ use Rattle.meaning.specs.Zones.Steps.{Step, by_edge, places, leaving_by, leaving
 use Rattle.meaning.specs.Text.ModelTable.{decode, edges}
 use Rattle.meaning.specs.Text.ModelReader.{words}
 use Rattle.meaning.specs.Text.RightProposal.{empty}
+use Rattle.meaning.proofs.Lists.{append_back}
 use Rattle.meaning.proofs.Text.ModelCells.{words_at, words_length}
 use Rattle.meaning.proofs.Zones.Counting.{places_by, zero_holds, places_from, zeros_from, steps_count, zeros_count, places_by_is, zero_holds_is, zero_place, leaving_by_count, steps_most}
 use Rattle.model_table.specs.Right.{RightTable}
@@ -42,32 +45,15 @@ module _ (t : List ℕ) (k n : ℕ) where
   unfolding numbers_in
   numbers_at x h = get_or-map (λ (y : ℕ). y - 1) (words t k n) x 0 ∙ ap (λ (y : ℕ). y - 1) (words_at t k n x h)
 
--- a claim that has to be 0
-pub held_due : (s d : Bool) (kept : ℕ) → s ≡ true → d ≡ true → leb kept 1 ≡ (s && (not d || eqb (kept - 1) 0))
-held_due s d kept a b = rw (a, b) (go kept)
-  where
-    go : (k : ℕ) → leb k 1 ≡ eqb (k - 1) 0
-    go zero = refl
-    go (suc zero) = refl
-    go (suc (suc k)) = lt-leb (suc (suc k)) 1 (omega arith) ∙ sym (ne_eqb (suc (suc k) - 1) 0 (λ e. omega arith))
-
 -- ---- lists
 
 empty_is : (o : List ℕ) → empty o ≡ eqb (length o) 0
 empty_is [] = refl
 empty_is (x ∷ o) = sym (ne_eqb (suc (length o)) 0 (λ e. omega arith))
 
-and_assoc : (a b c : Bool) → (a && (b && c)) ≡ ((a && b) && c)
-and_assoc true b c = refl
-and_assoc false b c = refl
-
-and_one : (b : Bool) → (b && true) ≡ b
-and_one true = refl
-and_one false = refl
-
 module _ {A : Type 0} where
   drop_next : (xs : List A) (k : ℕ) (x : A) → get_elem? xs k ≡ some x → drop k xs ≡ x ∷ drop (suc k) xs
-  drop_next [] k x e = absurd (let z : ◌≡◌ {A = ℕ} 0 1 = cc in omega arith)
+  drop_next [] k x e = absurd (cc)
   drop_next (y ∷ xs) zero x e = let q : y ≡ x = cc in ap (λ (z : _). z ∷ xs) q
   drop_next (y ∷ xs) (suc k) x e = drop_next xs k x e
 
@@ -78,9 +64,7 @@ module _ {A : Type 0} where
   append_front (x ∷ xs) ys (suc n) h = append_front xs ys n (omega arith)
 
   append_behind : (xs ys : List A) (n i : ℕ) → n ≡ length xs + i → get_elem? (xs ++ ys) n ≡ get_elem? ys i
-  append_behind [] ys n i e = let z : n ≡ i = omega arith in ap (get_elem? ys) z
-  append_behind (x ∷ xs) ys zero i e = absurd (omega arith)
-  append_behind (x ∷ xs) ys (suc n) i e = append_behind xs ys n i (omega arith)
+  append_behind xs ys n i e = ap (get_elem? (xs ++ ys)) e ∙ append_back xs ys i
 
   third : (a b : A) (l : List A) (x : ℕ) → 2 < x → nth1 (a ∷ b ∷ l) x ≡ get_elem? l (x - 2 - 1)
   third a b l zero h = absurd (omega arith)
@@ -123,17 +107,17 @@ module _ (m : Model) (h : Home) (k : ℕ) (e : Edge) (here : nth1 m.edges k ≡ 
 
 module _ (m : Model) (h : Home) (t : List ℕ) (at x : ℕ) where
   -- the first k edges are behind it
-  pub record Walking (many : ℕ) (zeros : Bool) (found : Found) (k : ℕ) : Type 0 where
+  pub record Walking (many : ℕ) (zeros : Bool) (found : R.Option Found) (k : ℕ) : Type 0 where
     pub places : many + places_from m h.location h.order (drop k m.edges) ≡ length (list_at m h)
     pub holds : zeros_kept m h t at
         ≡ (zeros && zeros_from m h.location h.order (numbers_in t at (length (list_at m h))) many (drop k m.edges))
     pub later : many < x → nth1 (list_at m h) x ≡ get_elem? (leaving m h.location h.order (suc k) (drop k m.edges)) (x - many - 1)
-    pub met : 3 ≤ x → x ≤ many → PlaceIs m h x found.edge found.rest
+    pub met : 3 ≤ x → x ≤ many → IsSomeAnd found (λ f. PlaceIs m h x f.edge f.rest)
     pub low : 2 ≤ many
-    pub none : (x ≤ 2) ⊎ (many < x) → (found.edge ≡ 0) × (found.rest ≡ 0)
+    pub none : (x ≤ 2) ⊎ (many < x) → found ≡ None
 
-  pub walking_first : (n kept : ℕ) (b : Bool) (f : Found) → (f.edge ≡ 0) × (f.rest ≡ 0) → n ≡ length h.order → kept ≡ get_or t (at + 1) 0 → b ≡ (true && (not (eqb n 0) || eqb (kept - 1) 0)) → Walking 2 b f 0
-  walking_first n kept b f o e g q =
+  pub walking_first : (none : Bool) (kept : ℕ) (b : Bool) → none ≡ eqb (length h.order) 0 → kept ≡ get_or t (at + 1) 0 → b ≡ (true && (not none || eqb (kept - 1) 0)) → Walking 2 b None 0
+  walking_first none kept b e g q =
       let z = widest h.location h.order in
       let two : 1 < length (list_at m h) = omega (arith, steps_count m z) in
       let c : get_or (numbers_in t at (length (list_at m h))) 1 0 ≡ kept - 1 = numbers_at t at (length (list_at m h)) 1 two ∙ ap (λ (y : ℕ). y - 1) (sym g) in
@@ -143,10 +127,10 @@ module _ (m : Model) (h : Home) (t : List ℕ) (at x : ℕ) where
         later = third _ _ _ x;
         met = λ a d. absurd (omega arith);
         low = omega arith;
-        none = λ _. o;
+        none = λ _. refl;
       }
 
-  module _ (many k : ℕ) (zeros : Bool) (found : Found) (w : Walking many zeros found k) where
+  module _ (many k : ℕ) (zeros : Bool) (found : R.Option Found) (w : Walking many zeros found k) where
     module _ (e : Edge) (here : get_elem? m.edges k ≡ some e) (r : Share) (s : ShareIs m h (suc k) r) where
       rest_is : drop k m.edges ≡ e ∷ drop (suc k) m.edges
       rest_is = drop_next m.edges k e here
@@ -180,7 +164,7 @@ module _ (m : Model) (h : Home) (t : List ℕ) (at x : ℕ) where
           let a : zeros_from m h.location h.order all many (drop k m.edges)
           ≡ (zero_holds m h.location h.order e (get_or all many 0) && zeros_from m h.location h.order all (many + places_by m h.location h.order e) (drop (suc k) m.edges)) = rw rest_is in
           w.holds ∙ ap (λ (y : Bool). zeros && y) a
-          ∙ rw (claim_holds kept f, sym (share_places m h (suc k) e here r s)) (and_assoc zeros (not r.zero || eqb (kept - 1) 0) _ ∙ rw (sym q))
+          ∙ rw (claim_holds kept f, sym (share_places m h (suc k) e here r s)) (sym (and_assoc zeros (not r.zero || eqb (kept - 1) 0) _) ∙ rw (sym q))
 
       here_is : many < x → nth1 (list_at m h) x
           ≡ get_elem? (leaving_by m h.location h.order (suc k) e ++ leaving m h.location h.order (suc (suc k)) (drop (suc k) m.edges)) (x - many - 1)
@@ -204,48 +188,54 @@ module _ (m : Model) (h : Home) (t : List ℕ) (at x : ℕ) where
                 ∙ ap (λ (l : List Step). get_elem? l (x - many - 1)) (share_steps m h (suc k) e here r s f);
           }
 
-      more_met : (f : Found) → FoundBy found (suc k) many r.places x f → 3 ≤ x → x ≤ many + r.places → PlaceIs m h x f.edge f.rest
+      more_met : (f : R.Option Found) → FoundBy found (suc k) many r.places x f → 3 ≤ x → x ≤ many + r.places → IsSomeAnd f (λ y. PlaceIs m h x y.edge y.rest)
       more_met f q a b = go (dec_le x many)
         where
-          go : Dec (x ≤ many) → PlaceIs m h x f.edge f.rest
-          go (yes l) = subst (λ (y : Found). PlaceIs m h x y.edge y.rest) (sym (q.before l)) (w.met a l)
-          go (no l) = subst (λ (y : Found). PlaceIs m h x y.edge y.rest) (sym (q.here (omega arith) b)) (more_here (omega arith) b)
+          go : Dec (x ≤ many) → IsSomeAnd f (λ y. PlaceIs m h x y.edge y.rest)
+          go (yes l) = rw (q.before l) (w.met a l)
+          go (no l) = rw (q.here (omega arith) b) (more_here (omega arith) b)
 
-      more_none : (f : Found) → FoundBy found (suc k) many r.places x f → (x ≤ 2) ⊎ (many + r.places < x) → (f.edge ≡ 0) × (f.rest ≡ 0)
-      more_none f q (inl l) =
-          subst (λ (y : Found). (y.edge ≡ 0) × (y.rest ≡ 0)) (sym (q.before (omega (arith, w.low)))) (w.none (inl l))
-      more_none f q (inr l) = subst (λ (y : Found). (y.edge ≡ 0) × (y.rest ≡ 0)) (sym (q.behind l)) (w.none (inr (omega arith)))
+      more_none : (f : R.Option Found) → FoundBy found (suc k) many r.places x f → (x ≤ 2) ⊎ (many + r.places < x) → f ≡ None
+      more_none f q (inl l) = q.before (omega (arith, w.low)) ∙ w.none (inl l)
+      more_none f q (inr l) = q.behind l ∙ w.none (inr (omega arith))
 
-      pub walking_more : (kept : ℕ) (b : Bool) (f : Found) → kept ≡ get_or t (at + many) 0 → b ≡ (zeros && (not r.zero || eqb (kept - 1) 0))
+      pub walking_more : (kept : ℕ) (b : Bool) (f : R.Option Found) → kept ≡ get_or t (at + many) 0 → b ≡ (zeros && (not r.zero || eqb (kept - 1) 0))
           → FoundBy found (suc k) many r.places x f → Walking (many + r.places) b f (suc k)
       walking_more kept b f g q o = record { places = left_places; holds = more_holds kept b g q; later = more_later; met = more_met f o; low = omega (arith, w.low); none = more_none f o }
 
-    pub walking_last : length m.edges ≤ k → WalkIs m h t at x (record { many = many; zeros = zeros; edge = found.edge; rest = found.rest })
+    pub walking_last : length m.edges ≤ k → WalkIs m h t at x (record { many = many; zeros = zeros; found = found })
     unfolding places_from zeros_from
     walking_last l =
         let d = drop_of_length-le m.edges l in
         let p : many + 0 ≡ length (list_at m h) = rw d at w.places in
         record {
           many = omega arith;
-          zeros = sym (w.holds ∙ rw d (and_one zeros));
+          zeros = sym (w.holds ∙ rw d (and-true zeros));
           place = λ a b. w.met a (omega arith);
           none = λ a. w.none (⊎_elim inl (λ b. inr (omega arith)) a);
         }
 
 -- the same over a model's table: one edge more
-module _ (u : List ℕ) (g : RightTable u) (h : Home) (t : List ℕ) (at x many k : ℕ) (zeros : Bool) (found : Found) (w : Walking (decode u) h t at x many zeros found k) (l : k < edges u) (r : Share) (s : ShareIs (decode u) h (k + 1) r) where
-  edge_here : get_elem? (decode u).edges k ≡ some (edge_of u (k + 1))
-  edge_here = subst (λ (n : ℕ). nth1 (decode u).edges n ≡ some (edge_of u (k + 1))) (add-one k) (g.edge (k + 1) (omega arith) (omega arith))
+module _ (u : List ℕ) (g : RightTable u) (h : Home) (t : List ℕ) (at x many edge : ℕ) (zeros : Bool) (found : R.Option Found) (w : Walking (decode u) h t at x many zeros found (edge - 1)) (low : 1 ≤ edge) (high : edge ≤ edges u) (r : Share) (s : ShareIs (decode u) h edge r) where
+  behind_is : edge ≡ suc (edge - 1)
+  behind_is = omega arith
 
-  -- far below what a machine number holds, however many tasks an edge releases
-  pub walking_room : length h.order ≤ 6 → many + r.places ≤ 100000
-  walking_room a =
-      let p = left_places (decode u) h t at x many k zeros found w (edge_of u (k + 1)) edge_here r (subst (λ (n : ℕ). ShareIs (decode u) h n r) (add-one k) s) in
-      omega (arith, steps_most (decode u) (widest h.location h.order) a g.right.edges_high)
+  edge_here : get_elem? (decode u).edges (edge - 1) ≡ some (edge_of u edge)
+  edge_here = subst (λ (n : ℕ). nth1 (decode u).edges n ≡ some (edge_of u edge)) behind_is (g.edge edge low high)
 
-  pub walking_edge : (kept : ℕ) (b : Bool) (f : Found) → kept ≡ get_or t (at + many) 0 → b ≡ (zeros && (not r.zero || eqb (kept - 1) 0))
-      → FoundBy found (k + 1) many r.places x f → Walking (decode u) h t at x (many + r.places) b f (k + 1)
-  walking_edge kept b f c q o =
-      subst (λ (n : ℕ). Walking (decode u) h t at x (many + r.places) b f n) (sym (add-one k))
-      (walking_more (decode u) h t at x many k zeros found w (edge_of u (k + 1)) edge_here r (subst (λ (n : ℕ). ShareIs (decode u) h n r) (add-one k) s) kept b f c q
-      (subst (λ (n : ℕ). FoundBy found n many r.places x f) (add-one k) o))
+  share_here : ShareIs (decode u) h (suc (edge - 1)) r
+  share_here = subst (λ (n : ℕ). ShareIs (decode u) h n r) behind_is s
+
+  module _ (few : length h.order ≤ 6) where
+    -- far below what a machine number holds, however many tasks an edge releases
+    pub walking_room : many + r.places ≤ 100000
+    walking_room =
+        let p = left_places (decode u) h t at x many (edge - 1) zeros found w (edge_of u edge) edge_here r share_here in
+        omega (arith, steps_most (decode u) (widest h.location h.order) few g.right.edges_high)
+
+    pub walking_edge : (kept : ℕ) (b : Bool) (f : R.Option Found) → kept ≡ get_or t (at + many) 0 → b ≡ (zeros && (not r.zero || eqb (kept - 1) 0))
+        → FoundBy found edge many r.places x f → (many + r.places ≤ 100000) × Walking (decode u) h t at x (many + r.places) b f (edge + 1 - 1)
+    walking_edge kept b f c q o =
+        let n : edge + 1 - 1 ≡ suc (edge - 1) = omega arith in
+        let by : FoundBy found (suc (edge - 1)) many r.places x f = subst (λ (n : ℕ). FoundBy found n many r.places x f) behind_is o in
+        (walking_room, rw n (walking_more (decode u) h t at x many (edge - 1) zeros found w (edge_of u edge) edge_here r share_here kept b f c q by))

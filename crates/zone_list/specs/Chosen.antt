@@ -1,6 +1,6 @@
 -- What is said of the positions of new jobs, one after the other.
 -- Assumes nothing.
-use Rattle.std.specs.Prelude.{◌≡◌, Bool, true, false, List, ◌∷◌, ℕ, ◌≤◌, ◌<◌, length, get_or}
+use Rattle.std.specs.Prelude.{◌≡◌, Bool, true, false, List, ◌∷◌, map, ℕ, ◌-◌, ◌≤◌, ◌<◌, length, get_or}
 use Rattle.std.proofs.Math.Option.{some}
 use Rattle.std.proofs.Math.ListN.{get_elem?}
 use Rattle.meaning.specs.Lists.{insert_at}
@@ -9,6 +9,10 @@ use Rattle.meaning.specs.Machine.Place.{behind}
 use Rattle.meaning.specs.Zones.Steps.{choices}
 use Rattle.zone_list.specs.declared.choice.Ahead.{Ahead}
 use Rattle.zone_list.specs.Steps.{aheads}
+
+-- how many jobs are ahead at each of the positions: a position has one job fewer ahead of it
+abbrev pub jobs_ahead : List ℕ → List ℕ
+jobs_ahead ps = map (λ (p : ℕ). p - 1) ps
 
 -- one position: of the choices of tasks t and ts in a queue of the tasks o, the one with n before it has so many jobs ahead of the first;
 -- and it is the one with so few before it of those that begin so

@@ -1,6 +1,6 @@
 -- What is counted over a list of steps, edge by edge, and the claims that are kept for it.
 -- Assumes nothing.
-use Rattle.std.specs.Prelude.{◌≡◌, Bool, true, false, cond, List, map, ◌⊎◌, ℕ, ◌+◌, ◌-◌, ◌≤◌, ◌<◌, length}
+use Rattle.std.specs.Prelude.{◌≡◌, Bool, true, false, cond, List, map, ◌⊎◌, Option, Some, None, IsSomeAnd, ℕ, ◌+◌, ◌-◌, ◌≤◌, ◌<◌, length}
 use Rattle.std.proofs.Math.ListN.{get_elem?}
 use Rattle.meaning.specs.Lists.{nth1}
 use Rattle.meaning.specs.Model.{Model}
@@ -34,10 +34,10 @@ pub record PlaceIs (m : Model) (h : Home) (x k n : ℕ) : Type 0 where
   pub is : nth1 (list_at m h) x ≡ get_elem? (map (by_edge k) (places m (released_by m k) h.order)) n
 
 -- r is what has place x, with edge k's places behind `many` others; b is the same without it
-pub record FoundBy (b : Found) (k many n x : ℕ) (r : Found) : Type 0 where
+pub record FoundBy (b : Option Found) (k many n x : ℕ) (r : Option Found) : Type 0 where
   pub before : x ≤ many → r ≡ b
   pub behind : many + n < x → r ≡ b
-  pub here : many < x → x ≤ many + n → r ≡ record { edge = k; rest = x - many - 1 }
+  pub here : many < x → x ≤ many + n → r ≡ Some (record { edge = k; rest = x - many - 1 })
 
 -- the claims, kept in the cells t from `at` on, are "0 where 0 is due"
 abbrev pub zeros_kept : Model → Home → List ℕ → ℕ → Bool
@@ -47,8 +47,8 @@ zeros_kept m h t at = zeros_at (zero_due_in m h.order) (list_at m h) (numbers_in
 pub record WalkIs (m : Model) (h : Home) (t : List ℕ) (at x : ℕ) (r : Walked) : Type 0 where
   pub many : r.many ≡ length (list_at m h)
   pub zeros : r.zeros ≡ zeros_kept m h t at
-  pub place : 3 ≤ x → x ≤ length (list_at m h) → PlaceIs m h x r.edge r.rest
-  pub none : (x ≤ 2) ⊎ (length (list_at m h) < x) → (r.edge ≡ 0) × (r.rest ≡ 0)
+  pub place : 3 ≤ x → x ≤ length (list_at m h) → IsSomeAnd r.found (λ f. PlaceIs m h x f.edge f.rest)
+  pub none : (x ≤ 2) ⊎ (length (list_at m h) < x) → r.found ≡ None
 
 -- the first two of them
 pub record StepsAre (m : Model) (h : Home) (t : List ℕ) (at : ℕ) (r : Steps) : Type 0 where

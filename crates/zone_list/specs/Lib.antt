@@ -1,3 +1,5 @@
+pub mod Right
+pub mod Listing
 pub mod Steps
 pub mod Chosen
 pub mod Counted

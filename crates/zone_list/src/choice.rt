@@ -1,17 +1,16 @@
 // The positions of new jobs that are released one after the other: how many choices there are, which stands at a place, and whether some positions are one.
-ghost use Rattle.std.specs.Prelude.{◌≡◌, true, ◌↔◌, ◌+◌, ◌-◌, ◌≤◌, ◌<◌, length, get_or, take, drop};
+ghost use Rattle.std.specs.Prelude.{◌≡◌, true, ◌↔◌, ◌+◌, ◌-◌, ◌≤◌, ◌<◌, ◌∷◌, length, map};
 ghost use mathlib.Core.List.{Memᴰ};
 ghost use Rattle.meaning.specs.Machine.Place.{behind};
 ghost use Rattle.meaning.specs.Zones.Steps.{choices};
-ghost use Rattle.meaning.specs.Text.ModelTable.{decode};
-ghost use Rattle.model_table.specs.Right.{RightTable};
-ghost use Rattle.home.specs.Stands.{tasks_of, order_of};
-ghost use Rattle.zone_list.specs.Steps.{aheads};
-ghost use Rattle.zone_list.specs.Chosen.{AheadIs, ChoiceIs};
+ghost use Rattle.home.specs.Stands.{order_of};
+ghost use Rattle.zone_list.specs.Listing.{model_of};
+ghost use Rattle.zone_list.specs.Chosen.{AheadIs, ChoiceIs, jobs_ahead};
 
 use crate::Positions;
 use crate::form::one_less;
-use home::{Home, Releases, Tasks, first_place, with_new};
+use crate::listing::Listing;
+use crate::queue::Queue;
 
 // How many jobs are ahead of a new one in the choice that is looked for, and how many choices with as many ahead are before it.
 #[derive(Clone, Copy)]
@@ -20,141 +19,92 @@ pub(crate) struct Ahead {
     pub rest: usize,
 }
 
-// How many choices of positions the releases from k on have, in a queue of `count` tasks.
-pub(crate) fn choices(
-    model: &[u32],
-    releases: Releases,
-    k: usize,
-    tasks: Tasks,
-    count: usize,
-) -> usize
-    requires right_table { RightTable model.now }
-    requires k_le_count { (k ≤ releases.count) × (releases.count ≤ 4) × (count + (releases.count - k) ≤ 6) }
-    ensures { (result ≡ length (choices (decode model.now) (drop k (tasks_of releases)) (take count tasks))) × (result ≤ 2401) }
-{
-    let n = releases.count as usize;
-    if k == n {
-        return 1;
-    }
-    let new = releases.tasks;
-    let task = new[k];
-    let first = first_place(model, task, tasks, count);
-    if k + 1 == n {
-        return count + 1 - first; // the last has a position for each place from its first on
-    }
-    let mut r = 0;
-    let mut p = first;
-    while p <= count {
-        // the next release meets the queue with this one in it
-        let next = with_new(tasks, count, task, p);
-        r += choices(model, releases, k + 1, next, count + 1);
-        p += 1;
-    }
-    r
-}
-
-// How many jobs are ahead of release k, in the choice of positions with `rest` before it of the releases from k on.
-fn ahead_at(
-    model: &[u32],
-    releases: Releases,
-    k: usize,
-    tasks: Tasks,
-    count: usize,
-    rest: usize,
-) -> Ahead
-    requires right_table { RightTable model.now }
-    requires k_lt_count { (k < releases.count) × (releases.count ≤ 4) × (count + (releases.count - k) ≤ 6) }
-    requires rest_in_bounds { rest < length (choices (decode model.now) (drop k (tasks_of releases)) (take count tasks)) }
-    ensures { AheadIs (decode model.now) (get_or releases.tasks k 0) (drop (k + 1) (tasks_of releases)) (take count tasks) rest result }
-{
-    let new = releases.tasks;
-    let task = new[k];
-    let mut left = rest;
-    let mut p = first_place(model, task, tasks, count);
-    while p < count {
-        let next = with_new(tasks, count, task, p);
-        let n = choices(model, releases, k + 1, next, count + 1);
-        if left < n {
-            return Ahead {
-                ahead: p,
-                rest: left,
-            };
+impl Listing<'_> {
+    // How many choices of positions the releases have in the queue.
+    pub(crate) fn choices(&self, releases: &[u32], queue: &Queue) -> usize
+        requires { (length releases.now ≤ 4) × (length queue.now + length releases.now ≤ 6) }
+        ensures { (result ≡ length (choices (model_of self.now) releases.now queue.now)) × (result ≤ 2401) }
+    {
+        let [task, later @ ..] = releases else {
+            return 1;
+        };
+        let first = queue.first_place(self.table, *task);
+        if later.is_empty() {
+            return queue.len() + 1 - first; // the last has a position for each place from its first on
         }
-        left -= n;
-        p += 1;
+        let mut r = 0;
+        for p in first..queue.len() + 1 {
+            // the next release meets the queue with this one in it
+            let next = queue.with(*task, p);
+            r += self.choices(later, &next);
+        }
+        r
     }
-    Ahead {
-        ahead: p,
-        rest: left,
-    }
-}
 
-// The choice of positions with `rest` before it.
-pub(crate) fn choice_at(model: &[u32], releases: Releases, home: Home, rest: usize) -> Positions
-    requires right_table { RightTable model.now }
-    requires count_bound { (releases.count ≤ 4) × (home.count + releases.count ≤ 6) }
-    requires rest_in_bounds { rest < length (choices (decode model.now) (tasks_of releases) (order_of home)) }
-    ensures { ChoiceIs (decode model.now) (tasks_of releases) (order_of home) rest result }
-{
-    let new = releases.tasks;
-    let n = releases.count as usize;
-    let count = home.count as usize;
-    let mut tasks = home.tasks;
-    let mut left = rest;
-    let mut r = [0u32; 4];
-    let mut k = 0;
-    while k < n {
-        let found = ahead_at(model, releases, k, tasks, count + k, left);
-        r[k] = found.ahead as u32 + 1;
-        let next = with_new(tasks, count + k, new[k], found.ahead);
-        tasks = next;
-        left = found.rest;
-        k += 1;
+    // How many jobs are ahead of a release, in the choice of positions with `rest` before it of this and the later releases.
+    fn ahead_at(&self, task: u32, later: &[u32], queue: &Queue, rest: usize) -> Ahead
+        requires few { (length later.now < 4) × (length queue.now + length later.now < 6) }
+        requires rest_in_bounds { rest < length (choices (model_of self.now) (task ∷ later.now) queue.now) }
+        ensures { AheadIs (model_of self.now) task later.now queue.now rest result }
+    {
+        let mut left = rest;
+        for p in queue.first_place(self.table, task)..queue.len() {
+            let n = self.choices(later, &queue.with(task, p));
+            if left < n {
+                return Ahead {
+                    ahead: p,
+                    rest: left,
+                };
+            }
+            left -= n;
+        }
+        Ahead {
+            ahead: queue.len(),
+            rest: left,
+        }
     }
-    r
-}
 
-// May a new job of the task have so many jobs of the queue ahead of it?
-fn may_stand(model: &[u32], task: u32, tasks: Tasks, count: usize, ahead: usize) -> bool
-    requires right_table { RightTable model.now }
-    requires count_bound { count ≤ 6 }
-    ensures { (result ≡ true) ↔ ((behind (decode model.now) task (take count tasks) ≤ ahead) × (ahead ≤ count)) }
-{
-    if ahead < first_place(model, task, tasks, count) {
-        return false;
+    // The choice of positions with `rest` before it.
+    pub(crate) fn choice_at(&self, releases: &[u32], rest: usize) -> Positions
+        requires few { (length releases.now ≤ 4) × (length (order_of self.now.home) + length releases.now ≤ 6) }
+        requires rest_in_bounds { rest < length (choices (model_of self.now) releases.now (order_of self.now.home)) }
+        ensures { ChoiceIs (model_of self.now) releases.now (order_of self.now.home) rest result }
+    {
+        let mut queue = Queue::of(self.home);
+        let mut left = rest;
+        let mut r = [0; 4];
+        for (k, &task) in releases.iter().enumerate() {
+            let found = self.ahead_at(task, &releases[k + 1..], &queue, left);
+            r[k] = found.ahead as u32 + 1;
+            queue = queue.with(task, found.ahead);
+            left = found.rest;
+        }
+        r
     }
-    ahead <= count
-}
 
-// Are the positions a choice of the releases?
-pub(crate) fn is_choice(
-    model: &[u32],
-    releases: Releases,
-    home: Home,
-    positions: Positions,
-    given: usize,
-) -> bool
-    requires right_table { RightTable model.now }
-    requires count_bound { (releases.count ≤ 4) × (home.count + releases.count ≤ 6) × (given ≤ 4) }
-    ensures { (result ≡ true) ↔ Memᴰ (aheads given positions) (choices (decode model.now) (tasks_of releases) (order_of home)) }
-{
-    let new = releases.tasks;
-    let n = releases.count as usize;
-    if given != n {
-        return false;
+    // May a new job of the task have so many jobs of the queue ahead of it?
+    fn may_stand(&self, task: u32, queue: &Queue, ahead: usize) -> bool
+        ensures { (result ≡ true) ↔ ((behind (model_of self.now) task queue.now ≤ ahead) × (ahead ≤ length queue.now)) }
+    {
+        queue.first_place(self.table, task) <= ahead && ahead <= queue.len()
     }
-    let count = home.count as usize;
-    let mut tasks = home.tasks;
-    let mut k = 0;
-    while k < n {
-        let ahead = one_less(positions[k]);
-        if may_stand(model, new[k], tasks, count + k, ahead) {
-            let next = with_new(tasks, count + k, new[k], ahead);
-            tasks = next;
-            k += 1;
-        } else {
+
+    // Are the positions a choice of the releases?
+    pub(crate) fn is_choice(&self, releases: &[u32], positions: &[u32]) -> bool
+        requires few { (length releases.now ≤ 4) × (length (order_of self.now.home) + length releases.now ≤ 6) }
+        ensures { (result ≡ true) ↔ Memᴰ (jobs_ahead positions.now) (choices (model_of self.now) releases.now (order_of self.now.home)) }
+    {
+        if positions.len() != releases.len() {
             return false;
         }
+        let mut queue = Queue::of(self.home);
+        for (k, &task) in releases.iter().enumerate() {
+            let ahead = one_less(positions[k]);
+            if !self.may_stand(task, &queue, ahead) {
+                return false;
+            }
+            queue = queue.with(task, ahead);
+        }
+        true
     }
-    true
 }

@@ -15,6 +15,7 @@ pub enum Kind {
 }
 
 // An edge has one position for each task that it releases, as each comes in; none where nothing is released or the release overflows.
+// A step is lent by value, in fixed memory: so its positions are an array with a count, and `Formed` says what stands behind.
 #[derive(Clone, Copy)]
 pub struct Step {
     pub kind: Kind,
@@ -22,7 +23,7 @@ pub struct Step {
     pub count: u32,
 }
 
-// How many steps the list has, and whether the claims are 0 where 0 is due.
+// How many steps the list has, and whether the claims are 0 where 0 is due: it has steps either way.
 #[derive(Clone, Copy)]
 pub struct Steps {
     pub many: usize,
@@ -33,23 +34,12 @@ pub struct Steps {
 pub fn ahead_of(step: Step) -> JobsAhead
     ensures { (k : ℕ) → get_or result k 0 ≡ get_or step.positions k 0 - 1 }
 {
-    let positions = step.positions;
-    let mut r = [0usize; 4];
-    let mut k = 0;
-    while k < 4 {
-        r[k] = one_less(positions[k]);
-        k += 1;
-    }
-    r
+    step.positions.map(one_less)
 }
 
 // How many jobs are ahead of a position.
 pub(crate) fn one_less(position: u32) -> usize
     ensures { result ≡ position - 1 }
 {
-    if position == 0 {
-        0
-    } else {
-        (position - 1) as usize
-    }
+    position.saturating_sub(1) as usize
 }

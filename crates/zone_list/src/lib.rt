@@ -4,7 +4,9 @@
 mod choice;
 mod form;
 mod listed;
+mod listing;
 mod place;
+mod queue;
 mod share;
 mod walk;
 

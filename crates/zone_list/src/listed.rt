@@ -1,26 +1,25 @@
 // Whether a step is in the list.
-ghost use Rattle.std.specs.Prelude.{◌≡◌, true, ◌↔◌, ◌≤◌};
+ghost use Rattle.std.specs.Prelude.{◌≡◌, true, ◌↔◌, ◌≤◌, length};
 ghost use mathlib.Core.List.{Memᴰ};
 ghost use Rattle.meaning.specs.Zones.Steps.{by_edge};
-ghost use Rattle.meaning.specs.Text.ModelTable.{decode};
-ghost use Rattle.model_table.specs.Right.{RightTable};
+ghost use Rattle.model_table.specs.Held as T;
 ghost use Rattle.home.specs.Stands.{home_of, RightHome};
-ghost use Rattle.zone_list.specs.Steps.{aheads, PlainTick, step_of, Formed, list_at, Listed};
-ghost use Rattle.zone_list.specs.Chosen.{Numbered, CellIs};
+ghost use Rattle.zone_list.specs.Listing.{model_of, place_of};
+ghost use Rattle.zone_list.specs.Steps.{PlainTick, step_of, Formed, list_at, Listed};
+ghost use Rattle.zone_list.specs.Chosen.{Numbered, CellIs, jobs_ahead};
 
-use crate::choice::is_choice;
-use crate::share::releases_over;
+use crate::listing::Listing;
 use crate::{Kind, Positions, Step};
 use home::{Home, released_by};
+use model_table::ModelTable;
 
 // May a step of this kind have so many positions? A tick has none.
 fn may_have(kind: Kind, count: u32) -> bool
     ensures { (result ≡ true) ↔ PlainTick kind count }
 {
     match kind {
-        Kind::GoOn => count == 0,
-        Kind::Finish => count == 0,
-        Kind::Edge(edge) => true,
+        Kind::GoOn | Kind::Finish => count == 0,
+        Kind::Edge(_) => true,
     }
 }
 
@@ -28,10 +27,7 @@ fn may_have(kind: Kind, count: u32) -> bool
 fn is_cell(used: bool, position: u32) -> bool
     ensures { (result ≡ true) ↔ CellIs used position }
 {
-    if used {
-        return 0 < position;
-    }
-    position == 0
+    used == (0 < position)
 }
 
 // Are the first positions numbered from 1, and the unused cells 0?
@@ -39,72 +35,53 @@ fn are_numbered(positions: Positions, count: usize) -> bool
     requires { count ≤ 4 }
     ensures { (result ≡ true) ↔ Numbered count positions }
 {
-    let mut k = 0;
-    while k < 4 {
-        if is_cell(k < count, positions[k]) {
-            k += 1;
-        } else {
-            return false;
-        }
-    }
-    true
+    positions
+        .iter()
+        .enumerate()
+        .all(|(k, &position)| is_cell(k < count, position))
 }
 
 // Has the step its one form?
 fn is_formed(step: Step) -> bool
     ensures { (result ≡ true) ↔ Formed step }
 {
-    if 4 < step.count {
-        return false;
-    }
-    let kind = step.kind;
-    let positions = step.positions;
-    if may_have(kind, step.count) {
-        return are_numbered(positions, step.count as usize);
-    }
-    false
+    step.count <= 4
+        && may_have(step.kind, step.count)
+        && are_numbered(step.positions, step.count as usize)
 }
 
-// Is the edge with these positions in the list?
-fn has_edge(model: &[u32], home: Home, edge: u32, positions: Positions, count: usize) -> bool
-    requires right_table { RightTable model.now }
-    requires right_home { RightHome (decode model.now) home }
-    requires count_bound { count ≤ 4 }
-    ensures { (result ≡ true) ↔ Memᴰ (by_edge edge (aheads count positions)) (list_at (decode model.now) (home_of home)) }
-{
-    if home::leaves(model, edge, home.location) {
-        if releases_over(model, home, edge) {
-            return count == 0;
+impl Listing<'_> {
+    // Is the edge with these positions in the list?
+    fn has_edge(&self, edge: u32, positions: &[u32]) -> bool
+        requires { length positions.now ≤ 4 }
+        ensures { (result ≡ true) ↔ Memᴰ (by_edge edge (jobs_ahead positions.now)) (list_at (model_of self.now) (place_of self.now)) }
+    {
+        if !home::leaves(&self.table, edge, self.home.location) {
+            return false;
         }
-        return is_choice(model, released_by(model, edge), home, positions, count);
+        if self.releases_over(edge) {
+            return positions.is_empty();
+        }
+        let releases = released_by(&self.table, edge);
+        self.is_choice(releases.list(), positions)
     }
-    false
-}
 
-// Is a step that has its form in the list?
-fn has_formed(model: &[u32], home: Home, step: Step) -> bool
-    requires right_table { RightTable model.now }
-    requires right_home { RightHome (decode model.now) home }
-    requires count_bound { step.count ≤ 4 }
-    ensures { (result ≡ true) ↔ Memᴰ (step_of step) (list_at (decode model.now) (home_of home)) }
-{
-    let kind = step.kind;
-    let positions = step.positions;
-    match kind {
-        Kind::GoOn => true,
-        Kind::Finish => true,
-        Kind::Edge(edge) => has_edge(model, home, edge, positions, step.count as usize),
+    // Is a step that has its form in the list?
+    fn has_formed(&self, step: Step) -> bool
+        requires { step.count ≤ 4 }
+        ensures { (result ≡ true) ↔ Memᴰ (step_of step) (list_at (model_of self.now) (place_of self.now)) }
+    {
+        match step.kind {
+            Kind::GoOn | Kind::Finish => true,
+            Kind::Edge(edge) => self.has_edge(edge, &step.positions[..step.count as usize]),
+        }
     }
 }
 
 // Is the step in the list? A step in another form is not.
-pub fn has(model: &[u32], home: Home, step: Step) -> bool
-    requires right_table { RightTable model.now }
-    requires right_home { RightHome (decode model.now) home }
-    ensures { (result ≡ true) ↔ Listed (decode model.now) (home_of home) step }
+pub fn has(model: &ModelTable, home: Home, step: Step) -> bool
+    requires right_home { RightHome (T.model_of model.now) home }
+    ensures { (result ≡ true) ↔ Listed (T.model_of model.now) (home_of home) step }
 {
-    if is_formed(step) {
-        return has_formed(model, home, step);
-    }
-    false
+    is_formed(step) && Listing::new(model, home).has_formed(step)
 }

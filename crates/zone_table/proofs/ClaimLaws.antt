@@ -1,50 +1,37 @@
--- Claims that are kept in a row of cells, looked at one after the other.
+-- Claims that are kept in a row of cells, of which none is above the last.
 -- Assumes nothing.
-use Prim.Native.Nat.{ℕ, suc, ◌+◌, ◌-◌, ◌≤◌, ◌<◌}
-use mathlib.Core.Path.{◌≡◌, sym, ap, ◌∙◌}
-use mathlib.Core.Bool.{true, false}
-use mathlib.Core.List.{List, [], ◌∷◌}
+use Prim.Native.Nat.{ℕ, zero, suc, ◌+◌, ◌-◌, ◌≤◌, ◌<◌}
+use mathlib.Core.Path.{◌≡◌}
+use mathlib.Core.Logic.{◌↔◌}
+use mathlib.Core.Bool.{Bool, true}
+use mathlib.Core.List.{List}
 use native.Mathlib.Omega.{arith}
+use native.Mathlib.Nat.{add-zero}
 use lib.ListN.{get_or}
 use borrow.Author.Tests.{le-leb, lt-leb}
 use Rattle.meaning.specs.Text.ModelReader.{words}
+use Rattle.meaning.proofs.Text.Choices.{by_lt}
 use Rattle.zone_list.specs.Counted.{numbers_in}
 use Rattle.zone_table.specs.Read.{none_above}
+use Rattle.zone_table.proofs.Deciding.{yes, no, same_test, test_once}
 
--- those that are left after the first k of n from `from` on
-abbrev pub rest : List ℕ → ℕ → ℕ → ℕ → List ℕ
-rest t from n k = numbers_in t (from + k) (n - k)
+module _ (t : List ℕ) (last : ℕ) where
+  -- so many cells from `from` on keep nothing above the last
+  abbrev KeptBelow : ℕ → ℕ → Type 0
+  KeptBelow from n = (x : ℕ) → x < n → get_or t (from + x) 0 - 1 ≤ last
 
-module _ (t : List ℕ) (from n : ℕ) where
-  pub rest_all : numbers_in t from n ≡ rest t from n 0
-  rest_all =
-      let a : from + 0 ≡ from = omega arith in
-      let b : n - 0 ≡ n = omega arith in
-      rw (a, b)
+  one_more : (from n : ℕ) → get_or t from 0 - 1 ≤ last → KeptBelow (suc from) n → KeptBelow from (suc n)
+  one_more from n q h zero l = rw (add-zero from) q
+  one_more from n q h (suc x) l = let z : from + suc x ≡ suc from + x = omega arith in rw z (h x (omega arith))
 
-  rest_more : (k : ℕ) → k < n → rest t from n k ≡ (get_or t (from + k) 0 - 1) ∷ rest t from n (k + 1)
-  unfolding numbers_in words
-  rest_more k h =
-      let a : n - k ≡ suc (n - (k + 1)) = omega arith in
-      let b : from + (k + 1) ≡ suc (from + k) = omega arith in
-      rw (a, b)
+  kept_below : (from n : ℕ) → (none_above last (numbers_in t from n) ≡ true) ↔ KeptBelow from n
+  unfolding none_above numbers_in words
+  kept_below from zero = yes (λ x h. absurd (omega arith))
+  kept_below from (suc n) =
+      let first = (λ (h : KeptBelow from (suc n)). rw (add-zero from) at (h 0 (omega arith))) in
+      let rest = (λ (h : KeptBelow from (suc n)) (x : ℕ) (l : x < n). let z : from + suc x ≡ suc from + x = omega arith in rw z at (h (suc x) (omega arith))) in
+      by_lt last (get_or t from 0 - 1) (λ q. rw (lt-leb (get_or t from 0 - 1) last q) (no (λ h. let w = first h in omega arith)))
+      (λ q. rw (le-leb (get_or t from 0 - 1) last q) (same_test _ (kept_below (suc from) n) (one_more from n q) rest))
 
-  rest_none : (k : ℕ) → n ≤ k → rest t from n k ≡ []
-  unfolding numbers_in words
-  rest_none k h = let a : n - k ≡ 0 = omega arith in rw a
-
-  module _ (k v : ℕ) (h : k < n) (e : v ≡ get_or t (from + k) 0 - 1) where
-    next_is : rest t from n k ≡ v ∷ rest t from n (k + 1)
-    next_is = rest_more k h ∙ ap (λ (x : ℕ). x ∷ rest t from n (k + 1)) (sym e)
-
-    pub up_to_not : (last : ℕ) → last < v → none_above last (rest t from n k) ≡ false
-    unfolding none_above
-    up_to_not last q = ap (none_above last) next_is ∙ rw (lt-leb v last q)
-
-    pub up_to_later : (last : ℕ) → v ≤ last → none_above last (rest t from n k) ≡ none_above last (rest t from n (k + 1))
-    unfolding none_above
-    up_to_later last q = ap (none_above last) next_is ∙ rw (le-leb v last q)
-
-  pub up_to_none : (last k : ℕ) → n ≤ k → none_above last (rest t from n k) ≡ true
-  unfolding none_above
-  up_to_none last k h = rw (rest_none k h)
+  pub up_to_last : (from n : ℕ) (r : Bool) → (r ≡ true) ↔ ((x : ℕ) → x < n → get_or t (from + x) 0 - 1 ≤ last) → r ≡ none_above last (numbers_in t from n)
+  up_to_last from n r d = test_once _ _ d (kept_below from n)

@@ -1,18 +1,21 @@
 -- A test that is true exactly where something holds.
 -- Assumes nothing.
-use Prim.Native.Nat.{ℕ, ◌+◌, ◌≤◌, ◌<◌}
-use mathlib.Core.Path.{◌≡◌, refl, sym, ◌∙◌, subst}
+use Prim.Native.Nat.{ℕ, ◌≤◌}
+use mathlib.Core.Path.{◌≡◌, refl, sym, ◌∙◌}
 use mathlib.Core.Logic.{◌↔◌}
 use mathlib.Core.Bool.{Bool, true, false, true≢false}
-use lib.Dec.{leb, eqb}
-use borrow.Author.Count.{below_more}
-use borrow.Author.Tests.{leb-true, le-leb, eqb-true, eq-eqb}
+use lib.Dec.{leb}
+use borrow.Author.Tests.{leb-true, le-leb}
 
 pub yes : {P : Type 0} → P → (true ≡ true) ↔ P
 yes p = (λ e. p, λ q. refl)
 
 pub no : {P : Type 0} → (P → ⊥) → (false ≡ true) ↔ P
 no f = (λ e. absurd (true≢false (sym e)), λ p. absurd (f p))
+
+-- a test that fails
+pub failed : {P : Type 0} (r : Bool) → r ≡ false → (P → ⊥) → (r ≡ true) ↔ P
+failed r e f = rw e (no f)
 
 -- what a test that fails rules out
 pub ruled_out : {P : Type 0} (r : Bool) → (r ≡ true) ↔ P → r ≡ false → P → ⊥
@@ -30,15 +33,3 @@ test_once false false d e = refl
 
 pub at_most : (a b : ℕ) → (leb a b ≡ true) ↔ (a ≤ b)
 at_most a b = (leb-true a b, le-leb a b)
-
-pub equal : (a b : ℕ) → (eqb a b ≡ true) ↔ (a ≡ b)
-equal a b = (eqb-true a b, eq-eqb a b)
-
--- ---- one after the other
-
-module _ (P : ℕ → ℕ → Type 0) (f : ℕ → ℕ) where
-  pub all_more : (x v : ℕ) (r : Bool) → v ≡ f x → (r ≡ true) ↔ P x v → r ≡ true → ((y : ℕ) → y < x → P y (f y)) → (y : ℕ) → y < x + 1 → P y (f y)
-  all_more x v r e d t h = below_more (λ y. P y (f y)) x h (subst (P x) e (d.0 t))
-
-  pub all_fails : (n x v : ℕ) (r : Bool) → x < n → v ≡ f x → (r ≡ true) ↔ P x v → r ≡ false → ((y : ℕ) → y < n → P y (f y)) → ⊥
-  all_fails n x v r l e d t h = ruled_out r d t (subst (P x) (sym e) (h x l))

@@ -5,24 +5,19 @@ use mathlib.Core.Path.{◌≡◌, sym, subst}
 use mathlib.Core.List.{List}
 use native.Mathlib.Omega.{arith}
 use native.Mathlib.Decide.{ℕ_discrete}
-use lib.IntN.{ℤ, pos, negsuc, ◌-ℤ◌}
+use lib.IntN.{ℤ, pos, negsuc}
 use lib.ListN.{length, get_or, set}
 use lib.Seq.{get_or-set_same, get_or-set_other}
 use mir.Syntax.{w32}
-use mir.Val.{SFits, to_z}
-use mir.ValLaws.{to_z_pos}
+use mir.Val.{SFits}
 use borrow.Author.Tests.{eq-eqb, ne_eqb}
 use Rattle.meaning.specs.Numbers.{over, under}
 use Rattle.meaning.specs.Text.Ranges.{bound_most}
 use Rattle.meaning.specs.Text.Lines.{lowered_by}
-use Rattle.meaning.proofs.Numbers.{sum_parts, parts_one}
 use Rattle.meaning.proofs.Text.BoundLaws.{over_of, under_of}
 use Rattle.meaning.proofs.Text.Choices.{by_eq}
 use Rattle.zone_bounds.specs.Entries.{no_bound}
 use Rattle.zone_table.specs.Read.{entry_of_kept}
-
-less_is : (v : ℕ) → 0 < v → pos v -ℤ pos 32001 ≡ lowered_by bound_most (v - 1)
-less_is v h = parts_one (pos v -ℤ pos 32001) (lowered_by bound_most (v - 1)) (omega (arith, sum_parts (pos v) (negsuc 32000), over_of bound_most (v - 1), under_of bound_most (v - 1)))
 
 small : (z : ℤ) → over z ≤ 2000000000 → under z ≤ 2000000000 → SFits w32 z
 small (pos n) a b = record { sfits = omega arith }
@@ -32,13 +27,6 @@ pub entry_fits : (v : ℕ) → v ≤ 64001 → SFits w32 (entry_of_kept v)
 entry_fits v h =
     by_eq v 0 (λ e. rw (eq-eqb v 0 e) (small no_bound (omega arith) (omega arith)))
     (λ e. rw (ne_eqb v 0 e) (small (lowered_by bound_most (v - 1)) (omega (arith, over_of bound_most (v - 1))) (omega (arith, under_of bound_most (v - 1)))))
-
--- what is computed is the entry
-pub entry_is : (v : ℕ) → 0 < v → v ≤ 64001 → to_z w32 v -ℤ pos 32001 ≡ entry_of_kept v
-entry_is v a b = rw (to_z_pos w32 v (omega arith), ne_eqb v 0 (λ e. omega arith)) (less_is v a)
-
-pub no_entry : (v : ℕ) → v ≡ 0 → entry_of_kept v ≡ no_bound
-no_entry v e = rw (eq-eqb v 0 e)
 
 -- ---- stored one after the other
 

@@ -1,6 +1,6 @@
 -- How long the lines of a proposal's text are.
 -- Assumes nothing.
-use Prim.Native.Nat.{ℕ, zero, suc, ◌+◌, ◌-◌, ◌/◌, ◌%◌, ◌≤◌, ◌<◌}
+use Prim.Native.Nat.{ℕ, suc, ◌+◌, ◌-◌, ◌/◌, ◌%◌, ◌≤◌, ◌<◌}
 use mathlib.Core.Path.{◌≡◌, sym, ◌∙◌, ap}
 use mathlib.Core.Bool.{true}
 use mathlib.Core.List.{List, [], ◌∷◌, ◌++◌, map}
@@ -15,7 +15,7 @@ use Rattle.meaning.specs.Text.ModelText.{texts}
 use Rattle.meaning.specs.Text.ProposalText.{order_text, bound_text, claims_text, zone_text, proposal_text, end_text}
 use Rattle.meaning.specs.Text.ModelTable.{there}
 use Rattle.meaning.specs.Text.ModelReader.{words}
-use Rattle.meaning.specs.Text.ProposalTable.{zone_slot, order_slot, end_slot, bounds_slot, pool_start, start_in, end_in, order_in, bounds_in, claims_in, zone_in, decode}
+use Rattle.meaning.specs.Text.ProposalTable.{zone_slot, order_slot, bounds_slot, pool_start, start_in, end_in, order_in, bounds_in, claims_in, zone_in, decode}
 use Rattle.meaning.specs.Zones.Zone.{Zone, Proposal}
 use Rattle.meaning.proofs.Text.BoundLaws.{raised_of}
 use Rattle.meaning.proofs.Text.WriteLaws.{dec_f_last, length_then}
@@ -114,9 +114,6 @@ text_length p = length-append (texts zone_text p.zones) end_text
 
 -- ---- what stands where a cell has something
 
-pub task_there : (v : ℕ) → 0 < v → length (pick (ltb 0 v) (field_text (v - 1)) []) ≡ 1 + length (kept_text 0 (v - 1))
-task_there v h = rw (lt-ltb 0 v h) (omega arith)
-
 pub bound_there : (i j v : ℕ) → 0 < v
     → length (pick (ltb 0 v) (bound_text (kept_bound i j (v - 1))) []) ≡ 6 + length (kept_text 0 i) + length (kept_text 0 j) + length (kept_text bound_most (v - 1))
 bound_there i j v h = rw (lt-ltb 0 v h) (bound_length i j (v - 1))
@@ -178,13 +175,6 @@ module _ (t : List ℕ) where
       + length (claims_text (map (λ (x : ℕ). x - 1) (words t (pool_start + start_in t k) (end_in t k - start_in t k))))
   unfolding zone_in claims_in
   zone_parts k = zone_length (zone_in t k)
-
-  pub start_zero : (k : ℕ) → k ≡ 0 → start_in t k ≡ 0
-  start_zero k e = rw e
-
-  pub start_later : (k : ℕ) → 1 ≤ k → start_in t k ≡ get_or t (end_slot (k - 1)) 0
-  start_later zero h = absurd (omega arith)
-  start_later (suc k) h = let z : suc k - 1 ≡ k = omega arith in rw z
 
   pub zone_sum : (k from n a b d : ℕ) → 0 < get_or t (zone_slot k) 0 → from ≡ start_in t k → n ≡ end_in t k - start_in t k
       → a ≡ length (order_text (get_or t (zone_slot k) 0 - 1) (order_in t k)) → b ≡ length (texts bound_text (bounds_in t k))

@@ -4,6 +4,7 @@ pub mod Dense
 pub mod SoundGiven
 pub mod GivenSound
 pub mod Deciding
+pub mod Ranges
 pub mod TestLaws
 pub mod ReadLaws
 pub mod ClaimLaws

@@ -2,12 +2,14 @@
 -- Assumes nothing.
 use Prim.Native.Nat.{ℕ, zero, suc, ◌+◌, ◌-◌, ◌*◌, ◌≤◌, ◌<◌}
 use mathlib.Core.Path.{◌≡◌, refl, sym, ◌∙◌, ap}
-use mathlib.Core.List.{List, [], ◌∷◌}
+use mathlib.Core.List.{List, [], ◌∷◌, ◌++◌}
 use mathlib.Core.Option.{some}
 use native.Mathlib.Omega.{arith}
-use lib.ListN.{length, get_or, get_elem?, take}
-use lib.Seq.{ext_get_or, get_or-take, length-take-le}
+use lib.ListN.{length, get_or, get_elem?, take, drop, replicate, length-append, length-drop}
+use lib.Seq.{ext_get_or, get_or-take, length-take-le, take-append-le}
+use Rattle.std.proofs.lemmas.List.{get_or-append_right, get_or-drop, get_or-replicate, get_or_past}
 use borrow.Author.Tests.{lt-ltb, ltb-false}
+use Rattle.meaning.proofs.Text.Choices.{by_lt}
 use Rattle.meaning.specs.Model.{Model}
 use Rattle.meaning.specs.Zones.Proper.{fits}
 use Rattle.meaning.specs.Zones.Reached as Z
@@ -18,7 +20,7 @@ use Rattle.home.specs.declared.Home.{Home}
 use Rattle.home.specs.Stands.{order_of, home_of, RightHome}
 use Rattle.zone_list.specs.Counted.{numbers_in}
 use Rattle.zone_table.specs.Sound.{queue_in, SoundOrder}
-use Rattle.zone_table.specs.Read.{HomeRead}
+use Rattle.zone_table.specs.Read.{TasksRead, HomeRead}
 use Rattle.zone_table.proofs.Dense.{collect_front, words_length, words_nth}
 use Rattle.zone_table.proofs.SoundGiven.{queue_few}
 use Rattle.zone_table.proofs.TestLaws.{order_row, order_right}
@@ -42,6 +44,17 @@ row_read t at n o h e =
     let l = length-take-le n o h in
     ext_get_or 0 (take n o) (numbers_in t at n) (l ∙ sym (numbers_length t at n))
     (λ x i. get_or-take n o x 0 (omega arith) ∙ e x (omega arith) ∙ sym (get_d_some (numbers_in t at n) x 0 (get_or t (at + x) 0 - 1) (numbers_nth t at n x (omega arith))))
+
+-- the first n tasks of a zone, and 0 behind them
+pub tasks_read : (t : List ℕ) (k n : ℕ) (w : List ℕ) → n ≤ 6 → length w ≡ n → ((x : ℕ) → x < n → get_or w x 0 ≡ get_or t (8 * k + 1 + x) 0 - 1) → TasksRead t k n (w ++ drop n (replicate 6 0))
+tasks_read t k n w h l e = record {
+  long = length-append w (drop n (replicate 6 0)) ∙ omega (arith, length-drop {A = ℕ} n (replicate 6 0));
+  is = take-append-le n w (drop n (replicate 6 0)) (omega arith) ∙ row_read t (8 * k + 1) n w (omega arith) e;
+  unused = λ x i. get_or-append_right w (drop n (replicate 6 0)) n x 0 l i ∙ get_or-drop n (replicate 6 0) (x - n) 0 ∙ none (n + (x - n));
+}
+  where
+    none : (i : ℕ) → get_or (replicate {A = ℕ} 6 0) i 0 ≡ 0
+    none i = by_lt i 6 (get_or-replicate 6 i 0 0) (get_or_past (replicate 6 0) i 0)
 
 -- ---- a location with a queue order
 

@@ -1,7 +1,7 @@
 -- What the tests of one zone, and of the whole table, come to.
 -- Assumes nothing.
 use Prim.Native.Nat.{ℕ, suc, ◌+◌, ◌-◌, ◌*◌, ◌≤◌, ◌<◌}
-use mathlib.Core.Path.{◌≡◌, sym, ◌∙◌, ap, subst}
+use mathlib.Core.Path.{◌≡◌, sym, ◌∙◌, ap}
 use mathlib.Core.Logic.{◌↔◌}
 use mathlib.Core.Bool.{Bool, true, false}
 use mathlib.Core.List.{List, map}
@@ -17,14 +17,14 @@ use Rattle.meaning.specs.Text.ModelReader.{words}
 use Rattle.meaning.specs.Text.RightProposal.{zero_due, zeros_at}
 use Rattle.meaning.specs.Text.ProposalReader.{Given}
 use Rattle.meaning.specs.Text.ProposalText.{proposal_text}
-use Rattle.meaning.specs.Text.ProposalTable.{size, pool_start, pool_size, start_in, end_in, order_in, claims_in, zone_in, decode}
+use Rattle.meaning.specs.Text.ProposalTable.{pool_start, pool_size, start_in, end_in, order_in, claims_in, zone_in, decode}
 use Rattle.model_table.specs.Right.{RightTable}
 use Rattle.home.specs.declared.Home.{Home}
 use Rattle.home.specs.Stands.{home_of}
 use Rattle.zone_list.specs.declared.form.Steps.{Steps}
 use Rattle.zone_list.specs.Steps.{list_at}
 use Rattle.zone_list.specs.Counted.{numbers_in, zeros_kept, StepsAre}
-use Rattle.zone_table.specs.Sound.{zones_in, queue_in, BoundFits, SoundOrder, SoundClaims, SoundZone, SoundPool, Unused, Sound}
+use Rattle.zone_table.specs.Sound.{queue_in, BoundFits, SoundOrder, SoundClaims, SoundZone, Sound}
 use Rattle.zone_table.specs.Read.{HomeRead}
 use Rattle.zone_table.proofs.Deciding.{ruled_out, same_test}
 use Rattle.zone_table.proofs.TestLaws.{bounds_right, bounds_fit}
@@ -37,12 +37,6 @@ module _ (u : List ℕ) (g : RightTable u) where
 
   module _ (t : List ℕ) (k : ℕ) where
     -- ---- the claims
-
-    pub claims_most : (to : ℕ) → to ≡ get_or t (8 * k + 7) 0 → pool_size < to → SoundClaims m t k → ⊥
-    claims_most to e h s = let w = s.most in omega arith
-
-    pub claims_end : (from to : ℕ) → from ≡ start_in t k → to ≡ get_or t (8 * k + 7) 0 → to < from → SoundClaims m t k → ⊥
-    claims_end from to e f h s = let w = s.ends in omega arith
 
     module _ (s : SoundOrder m t k) (h : Home) (w : HomeRead t k (queue_in t k) h) (at : ℕ) (r : Steps) (v : StepsAre m (home_of h) t at r) where
       many_is : r.many ≡ length (steps m (zone_in t k))
@@ -83,29 +77,6 @@ module _ (u : List ℕ) (g : RightTable u) where
   -- ---- the whole table
 
   module _ (t : List ℕ) where
-    pub unused_fails : (n : ℕ) (r : Bool) → n ≡ zones_in t → (r ≡ true) ↔ Unused t n → r ≡ false → Sound m t → ⊥
-    unused_fails n r e d h s = ruled_out r d h (subst (Unused t) (sym e) s.unused)
-
-    pub zones_fail : (n : ℕ) (r : Bool) → n ≡ zones_in t → (r ≡ true) ↔ ((k : ℕ) → k < n → SoundZone m t k) → r ≡ false → Sound m t → ⊥
-    zones_fail n r e d h s = ruled_out r d h (λ k l. s.zones k (omega arith))
-
-    pub sound_test : (n e : ℕ) (p q r : Bool) → length t ≡ size → n ≡ zones_in t → 1 ≤ n → (p ≡ true) ↔ Unused t n → p ≡ true → (q ≡ true) ↔ ((k : ℕ) → k < n → SoundZone m t k) → q ≡ true
-        → e ≡ get_or t (8 * (n - 1) + 7) 0 → (r ≡ true) ↔ SoundPool t n e → (r ≡ true) ↔ Sound m t
-    sound_test n e p q r l i h a b c d f y =
-        same_test r y
-        (λ s. record {
-          long = l;
-          some = omega arith;
-          unused = subst (Unused t) i (a.0 b);
-          zones = λ k x. c.0 d k (omega arith);
-          pool = subst (λ (z : ℕ). SoundPool t z (end_in t (z - 1))) i (subst (SoundPool t n) f s);
-        })
-        (λ s. subst (SoundPool t n) (sym f) (subst (λ (z : ℕ). SoundPool t z (end_in t (z - 1))) (sym i) s.pool))
-
-    -- the zones' claims end within the pool
-    pub pool_room : (n e : ℕ) (q : Bool) → 1 ≤ n → (q ≡ true) ↔ ((k : ℕ) → k < n → SoundZone m t k) → q ≡ true → e ≡ get_or t (8 * (n - 1) + 7) 0 → e ≤ pool_size
-    pool_room n e q h c d f = let w = (c.0 d (n - 1) (omega arith)).claims.most in omega arith
-
     pub given_test : (n : ℕ) (r s : Bool) → n ≡ length (proposal_text (decode t)) → (r ≡ true) ↔ Sound m t → r ≡ true → (s ≡ true) ↔ (n ≤ text_most) → (s ≡ true) ↔ Given m t
     given_test n r s e d h y =
         let b = given_sound m g.right t in

@@ -1,4 +1,4 @@
-// How long the text of a proposal's table is, line by line.
+// How long the text of a proposal's table is, line by line: apart from its writer, since the test of a table has no buffer to write into.
 ghost use Rattle.std.specs.Prelude.{◌≡◌, [], map, ℕ, ◌+◌, ◌-◌, ◌*◌, ◌≤◌, ltb, length, get_or};
 ghost use Rattle.meaning.specs.Text.Choice.{pick};
 ghost use Rattle.meaning.specs.Text.Numerals.{dec};
@@ -11,35 +11,22 @@ ghost use Rattle.meaning.specs.Text.ProposalText.{order_text, bound_text, claims
 ghost use Rattle.zone_table.specs.Kept.{field_text, kept_bound};
 
 use crate::pool::claims;
+use crate::sizes::{BOUND_MOST, BOUNDS, ZONES_MOST};
 use crate::starts::{POOL_START, bounds_start, claims_start, head_start};
 use model_table::{cell, less_one};
-
-// What is added to c of a bound, so that it is kept as a number that is not below 0.
-const BELOW: u32 = 32000;
-
-// How many zones, how many tasks of a queue, and how many cells of a zone's bounds there may be.
-const ZONES_MOST: u32 = 48;
-
-const QUEUE_MOST: usize = 6;
-
-const BOUNDS: usize = 289;
+use zone::Zone;
 
 // How many digits a number has.
 fn digits(v: u32) -> usize
     ensures { (result ≡ length (dec v)) × (result ≤ 6) }
 {
-    if v < 10 {
-        1
-    } else if v < 100 {
-        2
-    } else if v < 1000 {
-        3
-    } else if v < 10000 {
-        4
-    } else if v < 100000 {
-        5
-    } else {
-        6
+    match v {
+        0..=9 => 1,
+        10..=99 => 2,
+        100..=999 => 3,
+        1000..=9999 => 4,
+        10000..=99999 => 5,
+        _ => 6,
     }
 }
 
@@ -68,10 +55,8 @@ fn order_length(zones: &[u32], zone: u32) -> usize
 {
     let from = head_start(zone);
     let mut n = 4 + kept_length(0, less_one(cell(zones, from)));
-    let mut x: usize = 0;
-    while x < QUEUE_MOST {
+    for x in 0..Zone::QUEUE {
         n += task_length(cell(zones, from + 1 + x));
-        x += 1;
     }
     n
 }
@@ -81,7 +66,7 @@ fn bound_length(i: u32, j: u32, v: u32) -> usize
     ensures { (result ≡ length (pick (ltb 0 v) (bound_text (kept_bound i j (v - 1))) [])) × (result ≤ 27) }
 {
     if 0 < v {
-        6 + kept_length(0, i) + kept_length(0, j) + kept_length(BELOW, v - 1)
+        6 + kept_length(0, i) + kept_length(0, j) + kept_length(BOUND_MOST, v - 1)
     } else {
         0
     }
@@ -94,11 +79,13 @@ fn bounds_length(zones: &[u32], zone: u32) -> usize
 {
     let from = bounds_start(zone);
     let mut n: usize = 0;
-    let mut x: usize = 0;
-    while x < BOUNDS {
+    for x in 0..BOUNDS {
         let v = cell(zones, from + x);
-        n += bound_length((x / 17) as u32, (x % 17) as u32, v);
-        x += 1;
+        n += bound_length(
+            (x / Zone::VARIABLES) as u32,
+            (x % Zone::VARIABLES) as u32,
+            v,
+        );
     }
     n
 }
@@ -107,14 +94,12 @@ fn bounds_length(zones: &[u32], zone: u32) -> usize
 fn claims_length(zones: &[u32], from: u32, n: u32) -> usize
     ensures { (result ≡ length (claims_text (map (λ (x : ℕ). x - 1) (words zones.now (pool_start + from) n)))) × (result ≤ 3 + 8 * n) }
 {
-    let mut l: usize = 3;
-    let mut x: u32 = 0;
-    while x < n {
+    let mut length: usize = 3;
+    for x in 0..n {
         let v = cell(zones, POOL_START + (from as usize) + (x as usize));
-        l += 1 + kept_length(0, less_one(v));
-        x += 1;
+        length += 1 + kept_length(0, less_one(v));
     }
-    l
+    length
 }
 
 // The lines of a zone, where there is one.
@@ -135,10 +120,8 @@ pub fn text_length(zones: &[u32]) -> usize
     ensures { result ≡ length (proposal_text (decode zones.now)) }
 {
     let mut n: usize = 0;
-    let mut k: u32 = 0;
-    while k < ZONES_MOST {
-        k += 1;
-        n += zone_length(zones, k);
+    for k in 0..ZONES_MOST {
+        n += zone_length(zones, k + 1);
     }
     n + 3
 }

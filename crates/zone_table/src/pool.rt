@@ -12,9 +12,7 @@ pub fn claims(zones: &[u32], zone: u32) -> u32
     requires { (1 ≤ zone) × (zone ≤ 48) }
     ensures { result ≡ claims_at zones.now zone }
 {
-    let from = claims_start(zones, zone);
-    let to = claims_end(zones, zone);
-    if from < to { to - from } else { 0 }
+    claims_end(zones, zone).saturating_sub(claims_start(zones, zone))
 }
 
 // Its claim x.
@@ -31,12 +29,5 @@ pub fn up_to_last(zones: &[u32], from: usize, n: usize, last: u32) -> bool
     requires { from + n ≤ size }
     ensures { result ≡ none_above last (numbers_in zones.now from n) }
 {
-    let mut k: usize = 0;
-    while k < n {
-        if last < less_one(cell(zones, from + k)) {
-            return false;
-        }
-        k += 1;
-    }
-    true
+    (0..n).all(|k| less_one(cell(zones, from + k)) <= last)
 }

@@ -1,7 +1,8 @@
-// Where the parts of a zone begin. Zones are numbered from 1.
+// Where the parts of a zone begin. Zones are numbered from 1; the number stays a plain one, since callers of the public functions have it so.
 ghost use Rattle.std.specs.Prelude.{◌≡◌, ◌-◌, ◌≤◌};
 ghost use Rattle.meaning.specs.Text.ProposalTable.{zone_slot, bounds_slot, start_in, end_in};
 
+use crate::sizes::{BOUNDS, HEAD};
 use model_table::cell;
 
 // Where the bounds of the first zone begin.
@@ -18,7 +19,7 @@ pub fn head_start(zone: u32) -> usize
     requires { (1 ≤ zone) × (zone ≤ 48) }
     ensures { result ≡ zone_slot (zone - 1) }
 {
-    8 * ((zone - 1) as usize)
+    HEAD * ((zone - 1) as usize)
 }
 
 // Where its bounds begin.
@@ -26,7 +27,7 @@ pub fn bounds_start(zone: u32) -> usize
     requires { (1 ≤ zone) × (zone ≤ 48) }
     ensures { result ≡ bounds_slot (zone - 1) }
 {
-    BOUNDS_START + 289 * ((zone - 1) as usize)
+    BOUNDS_START + BOUNDS * ((zone - 1) as usize)
 }
 
 // Where its claims end in the pool.
@@ -34,7 +35,7 @@ pub(crate) fn claims_end(zones: &[u32], zone: u32) -> u32
     requires { (1 ≤ zone) × (zone ≤ 48) }
     ensures { result ≡ end_in zones.now (zone - 1) }
 {
-    cell(zones, head_start(zone) + 7)
+    cell(zones, head_start(zone) + (HEAD - 1))
 }
 
 // Where they begin.

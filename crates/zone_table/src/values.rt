@@ -4,6 +4,7 @@ ghost use Rattle.zone_table.specs.Sound.{queue_in};
 ghost use Rattle.zone_table.specs.Read.{KeptSmall, entry_of_kept, BoundsRead, TasksRead, HomeRead, ZoneRead};
 
 use crate::counts::queued;
+use crate::sizes::BOUNDS;
 use crate::starts::{bounds_start, head_start};
 use home::{Home, Tasks};
 use model_table::{cell, less_one};
@@ -16,13 +17,11 @@ fn tasks_of(zones: &[u32], zone: u32, len: u32) -> Tasks
 {
     let from = head_start(zone) + 1;
     let n = len as usize;
-    let mut o = [0u32; 6];
-    let mut x: usize = 0;
-    while x < n {
-        o[x] = less_one(cell(zones, from + x));
-        x += 1;
+    let mut tasks = [0; Zone::QUEUE];
+    for (x, task) in tasks[..n].iter_mut().enumerate() {
+        *task = less_one(cell(zones, from + x));
     }
-    o
+    tasks
 }
 
 // Its location and first tasks, as a location with a queue order.
@@ -55,24 +54,21 @@ fn entry(v: u32) -> i32
     if v == 0 {
         Zone::NO_BOUND
     } else {
-        (v as i32) - 32001
+        (v as i32) - (Zone::MOST + 1)
     }
 }
 
 // The bounds of a zone.
-fn bounds_of(zones: &[u32], zone: u32) -> [i32; 289]
+fn bounds_of(zones: &[u32], zone: u32) -> [i32; BOUNDS]
     requires { (1 ≤ zone) × (zone ≤ 48) × KeptSmall zones.now (zone - 1) }
     ensures { BoundsRead zones.now (zone - 1) result }
 {
     let from = bounds_start(zone);
-    let mut b = [Zone::NO_BOUND; 289];
-    let mut x: usize = 0;
-    while x < 289 {
-        let v = entry(cell(zones, from + x));
-        b[x] = v;
-        x += 1;
+    let mut bounds = [Zone::NO_BOUND; BOUNDS];
+    for (x, bound) in bounds.iter_mut().enumerate() {
+        *bound = entry(cell(zones, from + x));
     }
-    b
+    bounds
 }
 
 // A zone by value.

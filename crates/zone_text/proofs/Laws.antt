@@ -6,5 +6,4 @@ pub mod Orders
 pub mod Bounds
 pub mod Claims
 pub mod Ends
-pub mod Clearing
 pub mod Reading

@@ -1,13 +1,14 @@
 -- Rows written one after another.
 -- Assumes nothing.
-use Prim.Native.Nat.{ℕ, suc, ◌+◌, ◌-◌, ◌/◌, ◌%◌, ◌≤◌, ◌<◌}
+use Prim.Native.Nat.{ℕ, ◌+◌, ◌-◌, ◌/◌, ◌%◌, ◌≤◌, ◌<◌}
 use mathlib.Core.Path.{◌≡◌, refl, sym, ◌∙◌, ap, subst}
 use mathlib.Core.Bool.{Bool, true}
 use mathlib.Core.List.{List, [], ◌∷◌, ◌++◌, append_assoc, map}
 use native.Mathlib.Omega.{arith}
 use lib.Dec.{ltb}
-use native.Mathlib.Numerals.{add-one}
-use lib.ListN.{length, get_or, set, length-append}
+use lib.ListN.{length, get_or, take, drop, length-append}
+use lib.Seq.{drop-drop}
+use Rattle.std.proofs.lemmas.List.Edits.{sets-eq}
 use borrow.Author.Tests.{lt-ltb, le-ltb}
 use Rattle.meaning.specs.Text.Choice.{pick}
 use Rattle.meaning.specs.Text.Lines.{fields_text}
@@ -16,7 +17,7 @@ use Rattle.meaning.specs.Text.ModelTable.{there}
 use Rattle.meaning.specs.Text.ModelReader.{words}
 use Rattle.meaning.specs.Text.ProposalTable.{zone_slot, order_slot, bounds_slot, pool_start, start_in, end_in, order_in, bounds_in, claims_in, zone_in, decode}
 use Rattle.meaning.specs.Text.ProposalText.{order_text, bound_text, claims_text, zone_text, proposal_text, end_text}
-use Rattle.lines.specs.Put.{Put, firsts}
+use Rattle.lines.specs.Put.{Put}
 use Rattle.lines.proofs.Laws.Putting.{put_length, put_nothing, put_then}
 use Rattle.zone_table.specs.Kept.{field_text, kept_bound}
 use Rattle.zone_table.proofs.RowLaws.{numbers_texts, row, row_none, row_more, row_room, task_row, bound_row, claim_row, zone_row, tasks_all, bounds_all, claims_all, zones_all}
@@ -26,11 +27,9 @@ use Rattle.zone_table.proofs.LengthLaws.{bound_text_lem}
 pub put_as : {b : List ℕ} {at : ℕ} {b' : List ℕ} {r : ℕ} (xs ys : List ℕ) → xs ≡ ys → Put b at xs b' r → Put b at ys b' r
 put_as {b} {at} {b'} {r} xs ys e p = subst (λ (zs : List ℕ). Put b at zs b' r) e p
 
-pub put_two : (b : List ℕ) (at x y : ℕ) → Put b at (x ∷ y ∷ []) (set (set b at x) (at + 1) y) (at + 2)
-put_two b at x y = record { next = refl; text = rw add-one }
-
-pub put_three : (b : List ℕ) (at x y z : ℕ) → Put b at (x ∷ y ∷ z ∷ []) (set (set (set b at x) (at + 1) y) (at + 2) z) (at + 3)
-put_three b at x y z = let e : at + 2 ≡ suc (at + 1) = omega arith in record { next = refl; text = rw (e, add-one) }
+-- bytes copied over those from `at` on
+pub put_copied : (b : List ℕ) (at : ℕ) (xs : List ℕ) → at + length xs ≤ length b → Put b at xs (take at b ++ (xs ++ drop (length xs) (drop at b))) (at + length xs)
+put_copied b at xs h = record { next = refl; text = rw (drop-drop (length xs) at b) (sym (sets-eq xs b at h ∙ append_assoc (take at b) xs (drop (at + length xs) b))) }
 
 -- what stands where a cell has something
 pub there_is : (v : ℕ) (xs : List ℕ) → 0 < v → pick (ltb 0 v) xs [] ≡ xs
@@ -150,18 +149,17 @@ pub claims_text_lem : (cs : List ℕ) → claims_text cs ≡ (71 ∷ 79 ∷ []) 
 unfolding claims_text
 claims_text_lem cs = ap (λ (xs : List ℕ). 71 ∷ 79 ∷ xs) (numbers_texts cs)
 
-pub bound_fields : (i j v : ℕ) → bound_text (kept_bound i j v) ≡ (66 ∷ 68 ∷ []) ++ fields_text (firsts (0 ∷ 0 ∷ 32000 ∷ []) 0 3) (firsts (i ∷ j ∷ v ∷ []) 0 3)
-unfolding firsts
+pub bound_fields : (i j v : ℕ) → bound_text (kept_bound i j v) ≡ (66 ∷ 68 ∷ []) ++ fields_text (0 ∷ 0 ∷ 32000 ∷ []) (i ∷ j ∷ v ∷ [])
 bound_fields i j v = bound_text_lem i j v
 
-pub bound_put : (b c d : List ℕ) (at i j v k l : ℕ) → 0 < v → Put b at (66 ∷ 68 ∷ []) c k → Put c k (fields_text (firsts (0 ∷ 0 ∷ 32000 ∷ []) 0 3) (firsts (i ∷ j ∷ (v - 1) ∷ []) 0 3)) d l
+pub bound_put : (b c d : List ℕ) (at i j v k l : ℕ) → 0 < v → Put b at (66 ∷ 68 ∷ []) c k → Put c k (fields_text (0 ∷ 0 ∷ 32000 ∷ []) (i ∷ j ∷ (v - 1) ∷ [])) d l
     → Put b at (pick (ltb 0 v) (bound_text (kept_bound i j (v - 1))) []) d l
 bound_put b c d at i j v k l h p q =
     put_as _ (pick (ltb 0 v) (bound_text (kept_bound i j (v - 1))) []) (sym (there_is v (bound_text (kept_bound i j (v - 1))) h ∙ bound_fields i j (v - 1)))
-    (put_then b at (66 ∷ 68 ∷ []) (fields_text (firsts (0 ∷ 0 ∷ 32000 ∷ []) 0 3) (firsts (i ∷ j ∷ (v - 1) ∷ []) 0 3)) c d k l p q)
+    (put_then b at (66 ∷ 68 ∷ []) (fields_text (0 ∷ 0 ∷ 32000 ∷ []) (i ∷ j ∷ (v - 1) ∷ [])) c d k l p q)
 
 pub bound_length_is : (i j v : ℕ) → 0 < v
-    → length (pick (ltb 0 v) (bound_text (kept_bound i j (v - 1))) []) ≡ 2 + length (fields_text (firsts (0 ∷ 0 ∷ 32000 ∷ []) 0 3) (firsts (i ∷ j ∷ (v - 1) ∷ []) 0 3))
+    → length (pick (ltb 0 v) (bound_text (kept_bound i j (v - 1))) []) ≡ 2 + length (fields_text (0 ∷ 0 ∷ 32000 ∷ []) (i ∷ j ∷ (v - 1) ∷ []))
 bound_length_is i j v h = ap length (there_is v (bound_text (kept_bound i j (v - 1))) h ∙ bound_fields i j (v - 1)) ∙ omega arith
 
 -- ---- the line of a zone's location and tasks: its pieces, one after the other

@@ -1,50 +1,25 @@
--- What the writer answers, case by case; and that it settles the answer and the buffer.
+-- That the writer's contract settles the answer and the buffer.
 -- Assumes nothing.
-use Prim.Native.Nat.{ℕ, ◌≤◌, ◌<◌}
-use mathlib.Core.Path.{◌≡◌, refl, sym, ◌∙◌, ap, ap₂}
+use Prim.Native.Nat.{ℕ}
+use mathlib.Core.Path.{◌≡◌, sym, ◌∙◌, ap, ap₂}
 use mathlib.Core.Bool.{true}
 use mathlib.Core.List.{List, List-discrete}
-use native.Mathlib.Omega.{arith}
 use native.Mathlib.Decide.{ℕ_discrete}
 use lib.ListN.{length}
-use Rattle.meaning.specs.Model.{Model}
+use Rattle.std.specs.Prelude.{Result, Ok, Err}
 use Rattle.meaning.specs.Text.Records.{Answer, done, refused, write}
 use Rattle.meaning.specs.Text.ModelTable as parts
 use Rattle.meaning.specs.Text.ModelReader as reader
-use Rattle.meaning.specs.Text.ProposalReader.{Given, read_proposal}
+use Rattle.meaning.specs.Text.ProposalReader.{read_proposal}
 use Rattle.meaning.specs.Text.ProposalTable.{size}
 use Rattle.meaning.proofs.Text.Choices.{by_lt, nonsense}
 use Rattle.meaning.proofs.Text.ModelTheorems as theorems
 use Rattle.meaning.proofs.Text.ProposalTheorems.{proposal_given_iff}
-use Rattle.lines.specs.Put.{Put}
 use Rattle.zone_text.specs.Wrote.{written, GivenBoth, text_of, WroteProposal}
-use Rattle.zone_text.specs.Over.{WroteOver}
-use Rattle.zone_text.specs.declared.writing.Written.{Written}
-use Rattle.zone_text.specs.declared.writing.Written.TheVariants.{Done, Refused}
-
-module _ (u t b : List ℕ) where
-  pub wrote_none : (GivenBoth u t → ⊥) → WroteProposal u t b (Refused 13 0) b
-  wrote_none n = record { none = λ h. (refl, refl); short = λ g h. absurd (n g); text = λ g h. absurd (n g) }
-
-  -- over a model's table that a text gives
-  pub wrote_over : reader.Given u → (r : Written) (c : List ℕ) → WroteOver (parts.decode u) t b r c → WroteProposal u t b r c
-  wrote_over g r c w = record {
-    none = λ h. w.none (λ v. h (record { model = g; table = v }));
-    short = λ v. w.short v.table;
-    text = λ v. w.text v.table;
-  }
-
-module _ (m : Model) (t b : List ℕ) where
-  pub over_none : (Given m t → ⊥) → WroteOver m t b (Refused 13 0) b
-  over_none n = record { none = λ h. (refl, refl); short = λ g h. absurd (n g); text = λ g h. absurd (n g) }
-
-  pub over_short : Given m t → length b < length (text_of t) → WroteOver m t b (Refused 11 0) b
-  over_short g l = record { none = λ h. absurd (h g); short = λ g h. (refl, refl); text = λ g h. absurd (omega arith) }
-
-  pub over_text : Given m t → (c : List ℕ) (n : ℕ) → length (text_of t) ≤ length b → Put b 0 (text_of t) c n → WroteOver m t b (Done n) c
-  over_text g c n l p =
-      let e : n ≡ length (text_of t) = p.next ∙ omega arith in
-      record { none = λ h. absurd (h g); short = λ g h. absurd (omega arith); text = λ g h. (ap done e, p.text) }
+use Rattle.refusals.specs.declared.Reason.{Reason}
+use Rattle.refusals.specs.declared.Refusal.{Refusal}
+use Rattle.refusals.specs.Number.{number_of}
+use Rattle.refusals.proofs.Once.{number_once}
 
 -- ---- any two results coincide
 
@@ -75,16 +50,16 @@ both_dec u t = go (model_dec u)
     go (no n) = no (λ w. n w.model)
 
 -- an answer has one case
-written_one : (r s : Written) → written r ≡ written s → r ≡ s
-written_one (Done n) (Done l) e = let q : n ≡ l = cc in ap Done q
-written_one (Done n) (Refused k p) e = nonsense (cc)
-written_one (Refused k p) (Done n) e = nonsense (cc)
-written_one (Refused k p) (Refused l q) e =
-    let x : k ≡ l = cc in
-    let y : p ≡ q = cc in
-    ap₂ (λ (i j : ℕ). Refused i j) x y
+written_one : (r s : Result ℕ Refusal) → written r ≡ written s → r ≡ s
+written_one (Ok n) (Ok l) e = let q : n ≡ l = cc in ap Ok q
+written_one (Ok n) (Err f) e = nonsense (cc)
+written_one (Err e) (Ok n) f = nonsense (cc)
+written_one (Err e) (Err f) h =
+    let x : number_of e.reason ≡ number_of f.reason = cc in
+    let y : e.place ≡ f.place = cc in
+    ap₂ (λ (r : Reason) (p : ℕ). Err (record { reason = r; place = p })) (number_once e.reason f.reason x) y
 
-pub write_once : (u t b c d : List ℕ) (r s : Written) → WroteProposal u t b r c → WroteProposal u t b s d → (r ≡ s) × (c ≡ d)
+pub write_once : (u t b c d : List ℕ) (r s : Result ℕ Refusal) → WroteProposal u t b r c → WroteProposal u t b s d → (r ≡ s) × (c ≡ d)
 write_once u t b c d r s v w = go (both_dec u t)
   where
     join : {x : Answer ℕ} {y : List ℕ} → (written r ≡ x) × (c ≡ y) → (written s ≡ x) × (d ≡ y) → (r ≡ s) × (c ≡ d)

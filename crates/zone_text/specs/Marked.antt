@@ -1,8 +1,10 @@
--- The marks of a proposal's records by number, as the code has them.
+-- The marks of a proposal's records.
 -- Assumes nothing.
-use Rattle.std.specs.Prelude.{ℕ, ◌&&◌, eqb}
+use Rattle.std.specs.Prelude.{ℕ, ◌&&◌, eqb, Option, Some, None}
 use Rattle.meaning.specs.Text.Choice.{pick}
+use Rattle.zone_text.specs.declared.reading_marks.Mark as the_mark
+use Rattle.zone_text.specs.declared.reading_marks.Mark.TheVariants.{Order, Bound, Claims, End}
 
--- the number of the mark with these two bytes: 1 ZN, 2 BD, 3 GO, 4 EN; 0: none of them
-unfoldable pub mark_no : ℕ → ℕ → ℕ
-mark_no a b = pick (eqb a 90 && eqb b 78) 1 (pick (eqb a 66 && eqb b 68) 2 (pick (eqb a 71 && eqb b 79) 3 (pick (eqb a 69 && eqb b 78) 4 0)))
+-- the mark with these two bytes: ZN, BD, GO or EN, or none of them
+unfoldable pub mark_of : ℕ → ℕ → Option the_mark.Mark
+mark_of a b = pick (eqb a 90 && eqb b 78) (Some Order) (pick (eqb a 66 && eqb b 68) (Some Bound) (pick (eqb a 71 && eqb b 79) (Some Claims) (pick (eqb a 69 && eqb b 78) (Some End) None)))

@@ -1,62 +1,36 @@
-// The writer of a proposal's text. Each function but the last two gives the place after what it wrote.
+// The writer of a proposal's text. Each function but the last two gives the place after what it wrote; those two answer with the length of the text.
 ghost use Rattle.std.specs.Prelude.{[], ◌∷◌, map, ℕ, ◌+◌, ◌-◌, ◌≤◌, ltb, length, get_or};
 ghost use Rattle.meaning.specs.Text.Choice.{pick};
 ghost use Rattle.meaning.specs.Text.ModelText.{texts};
 ghost use Rattle.meaning.specs.Text.ModelTable.{there};
 ghost use Rattle.meaning.specs.Text.ModelReader.{words};
-ghost use Rattle.meaning.specs.Text.ModelTable as parts;
 ghost use Rattle.meaning.specs.Text.ProposalTable.{zone_slot, pool_start, order_in, bounds_in, zone_in, decode};
 ghost use Rattle.meaning.specs.Text.ProposalText.{order_text, bound_text, claims_text, zone_text, end_text, proposal_text};
 ghost use Rattle.lines.specs.Put.{Put};
 ghost use Rattle.zone_table.specs.Kept.{field_text, kept_bound};
-ghost use Rattle.model_table.specs.Right.{RightTable};
+ghost use Rattle.model_table.specs.Held.{model_of};
 ghost use Rattle.zone_text.specs.Wrote.{WroteProposal};
 ghost use Rattle.zone_text.specs.Over.{WroteOver};
 
-use model_table::{cell, less_one};
+use crate::refusing::refused;
+use lines::Field;
+use model_table::{ModelTable, cell, less_one};
 use model_text::is_model;
+use refusals::{Reason, Refusal};
+use zone::Zone;
 use zone_table::{
-    POOL_START, bounds_start, claims, claims_start, head_start, is_proposal, text_length,
+    BOUND_MOST, BOUNDS, POOL_START, ZONES_MOST, bounds_start, claims, claims_start, head_start,
+    is_proposal, text_length,
 };
 
-// What a writer answers: done, with the length of the text; or a refusal number and its place.
-#[derive(Clone, Copy)]
-pub enum Written {
-    Done(usize),
-    Refused(u32, usize),
-}
-
-// What is added to c of a bound, so that it is kept as a number that is not below 0.
-const BELOW: u32 = 32000;
-
-// A mark.
-fn write_mark(buf: &mut [u8], at: usize, a: u8, b: u8) -> usize
-    requires { at + 2 ≤ length buf.old }
-    ensures { Put buf.old at (a ∷ b ∷ []) buf.new result }
+// Some bytes as they are.
+fn write_bytes(buf: &mut [u8], at: usize, bytes: &[u8]) -> usize
+    requires { at + length bytes.now ≤ length buf.old }
+    ensures { Put buf.old at bytes.now buf.new result }
 {
-    buf[at] = a;
-    buf[at + 1] = b;
-    at + 2
-}
-
-// A line feed.
-fn write_feed(buf: &mut [u8], at: usize) -> usize
-    requires { at + 1 ≤ length buf.old }
-    ensures { Put buf.old at (10 ∷ []) buf.new result }
-{
-    buf[at] = 10;
-    at + 1
-}
-
-// The last line.
-fn write_end(buf: &mut [u8], at: usize) -> usize
-    requires { at + 3 ≤ length buf.old }
-    ensures { Put buf.old at end_text buf.new result }
-{
-    buf[at] = 69;
-    buf[at + 1] = 78;
-    buf[at + 2] = 10;
-    at + 3
+    let end = at + bytes.len();
+    buf[at..end].copy_from_slice(bytes);
+    end
 }
 
 // A task's field, where its cell has something.
@@ -64,10 +38,10 @@ fn write_task(v: u32, buf: &mut [u8], at: usize) -> usize
     requires { at + length (pick (ltb 0 v) (field_text (v - 1)) []) ≤ length buf.old }
     ensures { Put buf.old at (pick (ltb 0 v) (field_text (v - 1)) []) buf.new result }
 {
-    if 0 < v {
-        return lines::write_field(buf, at, 0, v - 1);
+    if v == 0 {
+        return at;
     }
-    at
+    lines::write_field(buf, at, 0, v - 1)
 }
 
 // The fields of a zone's tasks.
@@ -77,10 +51,8 @@ fn write_tasks(zones: &[u32], zone: u32, buf: &mut [u8], at: usize) -> usize
 {
     let from = head_start(zone);
     let mut p = at;
-    let mut x: usize = 0;
-    while x < 6 {
+    for x in 0..Zone::QUEUE {
         p = write_task(cell(zones, from + 1 + x), buf, p);
-        x += 1;
     }
     p
 }
@@ -90,11 +62,11 @@ fn write_order(zones: &[u32], zone: u32, buf: &mut [u8], at: usize) -> usize
     requires { (1 ≤ zone) × (zone ≤ 48) × (at + length (order_text (get_or zones.now (zone_slot (zone - 1)) 0 - 1) (order_in zones.now (zone - 1))) ≤ length buf.old) }
     ensures { Put buf.old at (order_text (get_or zones.now (zone_slot (zone - 1)) 0 - 1) (order_in zones.now (zone - 1))) buf.new result }
 {
-    let l = less_one(cell(zones, head_start(zone)));
-    let p = write_mark(buf, at, 90, 78);
-    let q = lines::write_field(buf, p, 0, l);
+    let location = less_one(cell(zones, head_start(zone)));
+    let p = write_bytes(buf, at, b"ZN");
+    let q = lines::write_field(buf, p, 0, location);
     let r = write_tasks(zones, zone, buf, q);
-    write_feed(buf, r)
+    write_bytes(buf, r, b"\n")
 }
 
 // The line of a bound, where its cell has something.
@@ -105,10 +77,22 @@ fn write_bound(i: u32, j: u32, v: u32, buf: &mut [u8], at: usize) -> usize
     if v == 0 {
         return at;
     }
-    let below = [0, 0, BELOW];
-    let numbers = [i, j, v - 1];
-    let p = write_mark(buf, at, 66, 68);
-    lines::write_fields(buf, p, 3, below, numbers)
+    let p = write_bytes(buf, at, b"BD");
+    let fields = [
+        Field {
+            below: 0,
+            number: i,
+        },
+        Field {
+            below: 0,
+            number: j,
+        },
+        Field {
+            below: BOUND_MOST,
+            number: v - 1,
+        },
+    ];
+    lines::write_fields(buf, p, &fields)
 }
 
 // The lines of a zone's bounds.
@@ -118,11 +102,11 @@ fn write_bounds(zones: &[u32], zone: u32, buf: &mut [u8], at: usize) -> usize
 {
     let from = bounds_start(zone);
     let mut p = at;
-    let mut x: usize = 0;
-    while x < 289 {
+    for x in 0..BOUNDS {
         let v = cell(zones, from + x);
-        p = write_bound((x / 17) as u32, (x % 17) as u32, v, buf, p);
-        x += 1;
+        let i = (x / Zone::VARIABLES) as u32;
+        let j = (x % Zone::VARIABLES) as u32;
+        p = write_bound(i, j, v, buf, p);
     }
     p
 }
@@ -133,11 +117,9 @@ fn write_numbers(zones: &[u32], from: u32, n: u32, buf: &mut [u8], at: usize) ->
     ensures { Put buf.old at (texts field_text (map (λ (x : ℕ). x - 1) (words zones.now (pool_start + from) n))) buf.new result }
 {
     let mut p = at;
-    let mut x: u32 = 0;
-    while x < n {
+    for x in 0..n {
         let v = less_one(cell(zones, POOL_START + (from as usize) + (x as usize)));
         p = lines::write_field(buf, p, 0, v);
-        x += 1;
     }
     p
 }
@@ -147,9 +129,9 @@ fn write_claims(zones: &[u32], from: u32, n: u32, buf: &mut [u8], at: usize) -> 
     requires { at + length (claims_text (map (λ (x : ℕ). x - 1) (words zones.now (pool_start + from) n))) ≤ length buf.old }
     ensures { Put buf.old at (claims_text (map (λ (x : ℕ). x - 1) (words zones.now (pool_start + from) n))) buf.new result }
 {
-    let p = write_mark(buf, at, 71, 79);
+    let p = write_bytes(buf, at, b"GO");
     let q = write_numbers(zones, from, n, buf, p);
-    write_feed(buf, q)
+    write_bytes(buf, q, b"\n")
 }
 
 // The lines of a zone, where there is one.
@@ -173,35 +155,31 @@ fn write_text(zones: &[u32], buf: &mut [u8]) -> usize
     ensures { Put buf.old 0 (proposal_text (decode zones.now)) buf.new result }
 {
     let mut p: usize = 0;
-    let mut k: u32 = 0;
-    while k < 48 {
-        k += 1;
-        p = write_zone(zones, k, buf, p);
+    for k in 0..ZONES_MOST {
+        p = write_zone(zones, k + 1, buf, p);
     }
-    write_end(buf, p)
+    write_bytes(buf, p, b"EN\n")
 }
 
 // The text of the proposal's table into the buffer, over a right model's table.
-fn write_over(model: &[u32], zones: &[u32], buffer: &mut [u8]) -> Written
-    requires { RightTable model.now }
-    ensures { WroteOver (parts.decode model.now) zones.now buffer.old result buffer.new }
+fn write_over(model: &ModelTable, zones: &[u32], buffer: &mut [u8]) -> Result<usize, Refusal>
+    ensures { WroteOver (model_of model.now) zones.now buffer.old result buffer.new }
 {
     if !is_proposal(model, zones) {
-        return Written::Refused(13, 0);
+        return Err(refused(Reason::NotProper, 0));
     }
     if buffer.len() < text_length(zones) {
-        return Written::Refused(11, 0);
+        return Err(refused(Reason::WrongRoom, 0));
     }
-    let n = write_text(zones, buffer);
-    Written::Done(n)
+    Ok(write_text(zones, buffer))
 }
 
 // The text of the proposal's table into the buffer.
-pub fn write_proposal(model: &[u32], zones: &[u32], buffer: &mut [u8]) -> Written
+pub fn write_proposal(model: &[u32], zones: &[u32], buffer: &mut [u8]) -> Result<usize, Refusal>
     ensures { WroteProposal model.now zones.now buffer.old result buffer.new }
 {
     if !is_model(model) {
-        return Written::Refused(13, 0);
+        return Err(refused(Reason::NotProper, 0));
     }
-    write_over(model, zones, buffer)
+    write_over(&ModelTable { cells: model }, zones, buffer)
 }

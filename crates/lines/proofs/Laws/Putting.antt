@@ -1,19 +1,22 @@
 -- Writes one after another, and the fields of a line one after another.
 -- Assumes nothing.
-use Prim.Native.Nat.{ℕ, zero, suc, ◌+◌, ◌-◌, ◌≤◌, ◌<◌}
+use Prim.Native.Nat.{ℕ, ◌+◌, ◌-◌, ◌≤◌, ◌<◌}
 use mathlib.Core.Path.{◌≡◌, refl, sym, ap, ◌∙◌}
-use mathlib.Core.List.{List, [], ◌∷◌, ◌++◌, append_assoc}
+use mathlib.Core.List.{List, [], ◌∷◌, ◌++◌, append_assoc, map}
 use mathlib.Core.Bool.{true, false}
 use native.Mathlib.Omega.{arith}
 use native.Mathlib.Numerals.{add-one}
-use lib.ListN.{length, get_or, set, length-append}
-use lib.Seq.{sets, length-sets}
+use lib.ListN.{length, get_or, set, take, length-append}
+use lib.Seq.{sets, length-sets, take-suc, take_all}
 use borrow.Author.Tests.{lt-ltb, le-ltb}
+use Rattle.std.specs.List.{flat_map}
+use Rattle.std.proofs.lemmas.List.Folds.{length-flat_map-take}
+use Rattle.std.proofs.lemmas.List.{flat_map_more}
 use Rattle.meaning.specs.Text.Numerals.{num_text}
 use Rattle.meaning.specs.Text.Lines.{kept_text, fields_text}
-use Rattle.meaning.proofs.Text.Choices.{by_lt}
-use Rattle.meaning.proofs.Text.WriteLaws.{sets_append}
-use Rattle.lines.specs.Put.{Put, firsts}
+use Rattle.meaning.proofs.Text.WriteLaws.{dec_f_none, dec_f_last, dec_f_then, length_then, num_text_minus, num_text_plain, sets_append}
+use Rattle.lines.specs.declared.writing.Field.{Field}
+use Rattle.lines.specs.Put.{Put}
 
 pub put_nothing : (b : List ℕ) (at : ℕ) → Put b at [] b at
 put_nothing b at = record { next = omega arith; text = refl }
@@ -48,56 +51,40 @@ kept_plain k v h = rw (le-ltb v k h)
 
 -- ---- the fields of a line
 
-module _ (b v : List ℕ) where
-  -- the first k fields
-  unfoldable pub front : ℕ → List ℕ
-  front zero = []
-  front (suc k) = front k ++ 32 ∷ kept_text (get_or b k 0) (get_or v k 0)
+-- one field
+abbrev pub field_text : Field → List ℕ
+field_text f = 32 ∷ kept_text f.below f.number
 
-  pub front_none : front 0 ≡ []
-  unfolding front
-  front_none = refl
+-- the whole line is its fields and the line feed
+pub fields_all : (fs : List Field) → fields_text (map (λ (f : Field). f.below) fs) (map (λ (f : Field). f.number) fs) ≡ flat_map field_text fs ++ 10 ∷ []
+unfolding fields_text
+fields_all [] = refl
+fields_all (f ∷ fs) = rw (fields_all fs, append_assoc)
 
-  pub front_more : (k : ℕ) → front (k + 1) ≡ front k ++ 32 ∷ kept_text (get_or b k 0) (get_or v k 0)
-  unfolding front
-  front_more k = rw add-one
-
-  front_text : (k d : ℕ) → fields_text (firsts b 0 (k + d)) (firsts v 0 (k + d)) ≡ front k ++ fields_text (firsts b k d) (firsts v k d)
-  unfolding front
-  front_text zero d = let z : 0 + d ≡ d = omega arith in rw z
-  front_text (suc k) d =
-      let z : suc k + d ≡ k + suc d = omega arith in
-      rw z (front_text k (suc d) ∙ (unfold fields_text firsts in rw append_assoc))
-
-  -- the whole line is its fields and the line feed
-  pub fields_all : (n : ℕ) → fields_text (firsts b 0 n) (firsts v 0 n) ≡ front n ++ 10 ∷ []
-  fields_all n =
-      let z : n + 0 ≡ n = omega arith in
-      (let e : fields_text (firsts b 0 (n + 0)) (firsts v 0 (n + 0)) ≡ front n ++ fields_text (firsts b n 0) (firsts v n 0) = front_text n 0 in
-      rw z at e) ∙ (unfold fields_text firsts in refl)
-
-  front_le : (k n : ℕ) → k ≤ n → length (front k) ≤ length (front n)
-  unfolding front
-  front_le k zero h = let z : k ≡ 0 = omega arith in rw z (omega arith)
-  front_le k (suc n) h =
-      by_lt k (suc n)
-      (λ l. omega (arith, front_le k n (omega arith), length-append (front n) (32 ∷ kept_text (get_or b n 0) (get_or v n 0))))
-      (λ l. let z : k ≡ suc n = omega arith in rw z (omega arith))
-
-  -- there is room for one field more, and for the line feed
-  pub field_room : (k n : ℕ) → k < n → length (front k) + length (32 ∷ kept_text (get_or b k 0) (get_or v k 0)) ≤ length (fields_text (firsts b 0 n) (firsts v 0 n))
-  field_room k n h =
-      let e = ap length (fields_all n) ∙ length-append (front n) (10 ∷ []) in
-      let f = ap length (front_more k) ∙ length-append (front k) (32 ∷ kept_text (get_or b k 0) (get_or v k 0)) in
-      let g = front_le (k + 1) n (omega arith) in
-      omega arith
-
-  pub end_room : (k n : ℕ) → k ≡ n → length (fields_text (firsts b 0 n) (firsts v 0 n)) ≡ length (front k) + 1
-  end_room k n h = ap length (fields_all n) ∙ length-append (front n) (10 ∷ []) ∙ rw h
+module _ (fs : List Field) (c c₁ : List ℕ) (at k p : ℕ) (d : Field) (x : Put c at (flat_map field_text (take k fs)) c₁ p) where
+  -- there is room for one field more
+  pub field_room : k < length fs → at + length (fields_text (map (λ (f : Field). f.below) fs) (map (λ (f : Field). f.number) fs)) ≤ length c
+      → p + length (field_text (get_or fs k d)) ≤ length c
+  field_room i h = omega (arith, x.next, length-flat_map-take field_text fs k d i, ap length (fields_all fs), length-append (flat_map field_text fs) (10 ∷ []))
 
   -- one field more
-  pub put_field_more : (c c₁ c₂ : List ℕ) (at k p r : ℕ) → Put c at (front k) c₁ p → Put c₁ p (32 ∷ kept_text (get_or b k 0) (get_or v k 0)) c₂ r → Put c at (front (k + 1)) c₂ r
-  put_field_more c c₁ c₂ at k p r x y = rw (front_more k) (put_then c at (front k) (32 ∷ kept_text (get_or b k 0) (get_or v k 0)) c₁ c₂ p r x y)
+  pub put_field_more : (c₂ : List ℕ) (r : ℕ) → k < length fs → Put c₁ p (field_text (get_or fs k d)) c₂ r → Put c at (flat_map field_text (take (k + 1) fs)) c₂ r
+  put_field_more c₂ r i y =
+      let e : flat_map field_text (take (k + 1) fs) ≡ flat_map field_text (take k fs) ++ field_text (get_or fs k d) = rw (add-one, take-suc fs k d i) (sym (flat_map_more field_text [] (take k fs) (get_or fs k d))) in
+      rw e (put_then c at (flat_map field_text (take k fs)) (field_text (get_or fs k d)) c₁ c₂ p r x y)
 
-  pub put_line_feed : (c c₁ : List ℕ) (at k n p : ℕ) → k ≡ n → Put c at (front k) c₁ p → Put c at (fields_text (firsts b 0 n) (firsts v 0 n)) (set c₁ p 10) (p + 1)
-  put_line_feed c c₁ at k n p h x = rw (fields_all n, sym h) (put_then c at (front k) (10 ∷ []) c₁ (set c₁ p 10) p (p + 1) x (put_byte c₁ p 10))
+-- the line feed
+pub put_line_feed : (fs : List Field) (c c₁ : List ℕ) (at k p : ℕ) → length fs ≤ k → Put c at (flat_map field_text (take k fs)) c₁ p
+    → Put c at (fields_text (map (λ (f : Field). f.below) fs) (map (λ (f : Field). f.number) fs)) (set c₁ p 10) (p + 1)
+put_line_feed fs c c₁ at k p h x =
+    rw (fields_all fs) (put_then c at (flat_map field_text fs) (10 ∷ []) c₁ (set c₁ p 10) p (p + 1) (rw (take_all k fs h) at x) (put_byte c₁ p 10))
+
+pub end_room : (fs : List Field) (c c₁ : List ℕ) (at k p : ℕ) → length fs ≤ k → Put c at (flat_map field_text (take k fs)) c₁ p
+    → at + length (fields_text (map (λ (f : Field). f.below) fs) (map (λ (f : Field). f.number) fs)) ≤ length c → p < length c
+end_room fs c c₁ at k p h x q = omega (arith, (rw (take_all k fs h) at x).next, ap length (fields_all fs), length-append (flat_map field_text fs) (10 ∷ []))
+
+-- ---- what the writers are proved by
+
+pub ruleset digits_laws = (put_nothing, put_byte, put_then, dec_f_none, dec_f_last, dec_f_then, length_then)
+
+pub ruleset sign_laws = (put_cons, num_text_minus, num_text_plain)

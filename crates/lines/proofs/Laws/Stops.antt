@@ -1,23 +1,31 @@
--- The first comma or full stop, place by place.
+-- The first comma or full stop by the library's words.
 -- Assumes nothing.
-use Prim.Native.Nat.{ℕ, ◌+◌, ◌≤◌, ◌<◌, suc}
-use mathlib.Core.Path.{◌≡◌}
+use Prim.Native.Nat.{ℕ, suc, ◌+◌}
+use mathlib.Core.Path.{◌≡◌, refl, ◌∙◌}
 use mathlib.Core.List.{List}
-use mathlib.Core.Bool.{true, false}
-use native.Mathlib.Numerals.{add-one}
-use lib.ListN.{length, drop, get_or, drop_of_length-le}
-use lib.Seq.{drop-cons}
+use mathlib.Core.Bool.{Bool, true, false, cond, not}
+use native.Mathlib.Omega.{arith}
+use lib.Dec.{ltb}
+use borrow.Author.Tests.{ltb-false}
+use lib.ListN.{length}
+use Rattle.std.specs.List.{position, position_or_len}
+use Rattle.std.specs.Option.{unwrap_or}
+use Rattle.std.proofs.lemmas.List.Sums.{prefix_len-le-length}
+use Rattle.std.proofs.lemmas.List.Recursion.{is_position_or_len}
+use Rattle.meaning.specs.Text.Choice.{pick}
 use Rattle.meaning.specs.Text.Records.{is_stop, first_stop}
 
-module _ (s : List ℕ) (i : ℕ) where
-  pub stop_here : i < length s → is_stop (get_or s i 0) ≡ true → first_stop (drop i s) ≡ 0
-  unfolding first_stop
-  stop_here h e = rw (drop-cons s i 0, e)
+or_len : (s : List ℕ) → first_stop s ≡ position_or_len is_stop s
+unfolding first_stop
+or_len s = is_position_or_len first_stop is_stop refl (λ x xs. go (is_stop x) (first_stop xs)) s
+  where
+    go : (t : Bool) (n : ℕ) → pick t 0 (suc n) ≡ cond t 0 (1 + n)
+    go true n = refl
+    go false n = omega arith
 
-  pub stop_later : i < length s → is_stop (get_or s i 0) ≡ false → first_stop (drop i s) ≡ suc (first_stop (drop (i + 1) s))
-  unfolding first_stop
-  stop_later h e = rw (drop-cons s i 0, e, add-one)
-
-  pub stop_none : length s ≤ i → first_stop (drop i s) ≡ 0
-  unfolding first_stop
-  stop_none h = rw (drop_of_length-le s h)
+pub first_stop_is : (s : List ℕ) → first_stop s ≡ unwrap_or (position is_stop s) (length s)
+first_stop_is s = or_len s ∙ go (ltb (position_or_len is_stop s) (length s)) refl
+  where
+    go : (t : Bool) → ltb (position_or_len is_stop s) (length s) ≡ t → position_or_len is_stop s ≡ unwrap_or (position is_stop s) (length s)
+    go true e = rw e
+    go false e = rw e (omega (arith, ltb-false _ _ e, prefix_len-le-length (λ (x : ℕ). not (is_stop x)) s))

@@ -1,15 +1,7 @@
 -- `edge` meets its contract.
-use Rattle.machine.proofs.CellTests.{told_so, told_not}
-use Rattle.machine.proofs.LendLaws.{usable_lent}
+use Rattle.machine.proofs.CellTests.{told_so}
+use Rattle.model_table.proofs.GivenLaws.{given_table}
 use Rattle.machine.proofs.edge.Goals as goal
 
-pub edge_given-requires : goal.edge_given-requires
-edge_given-requires c = usable_lent _ _ (told_so c.is_usable.result c.is_usable.ensures c.if-is_usable.true)
-
-pub returns-then-is_usable : goal.returns-then-is_usable
-returns-then-is_usable c = let u = told_so c.is_usable.result c.is_usable.ensures c.if-is_usable.true in
-    record { unusable = λ h. absurd (h u); usable = λ h. c.edge_given.ensures }
-
-pub returns : goal.returns
-returns c = let h = told_not c.is_usable.result c.is_usable.ensures c.if-is_usable.false in
-    record { unusable = λ g. c.refused.ensures; usable = λ u. absurd (h u) }
+pub invariant_of-edge_given : goal.invariant_of-edge_given
+invariant_of-edge_given c = record { right = given_table _ (told_so c.is_usable.result c.is_usable.ensures c.if-is_usable.true).given }

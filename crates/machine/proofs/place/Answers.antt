@@ -1,15 +1,18 @@
 -- `machine::place` meets its contract.
 use native.Mathlib.Omega.{arith}
-use Rattle.machine.proofs.SeenLaws.{looked_next}
-use Rattle.machine.proofs.PlaceLaws.{looked_whole}
+use Rattle.std.proofs.lemmas.Result.{err_from_is_err_and}
+use Rattle.machine.proofs.SeenLaws.{wrong_next}
+use Rattle.machine.proofs.PlaceLaws.{placing_whole, placing_wrong}
 use Rattle.machine.proofs.place.Goals as goal
 
-pub loop-k-preserved : goal.loop-k-preserved
-loop-k-preserved c =
-    let l = c.loop-k in
-    (omega arith, looked_next _ _ c.args.jobs.now l.k l.s _ l.invariant.1 (omega arith) c.look-s.ensures)
+pub returns-in_err-seen : goal.returns-in_err-seen
+returns-in_err-seen c =
+    let l = c.loop-job in
+    let e = c.in_err-seen.ensures.err in
+    let p = err_from_is_err_and c.from_residual.result c.from_residual.ensures.1 in
+    rw (p.1, p.2) (placing_wrong _ _ c.args.jobs.now _ e.reason (wrong_next _ c.args.task c.args.jobs.now l.job-index l.seen _ l.invariant (omega arith) e))
 
 pub returns : goal.returns
 returns c =
-    let l = c.loop-k in
-    looked_whole _ _ c.args.jobs.now l.k l.s c.finish.result l.invariant.1 l.invariant.0 (omega arith) c.finish.ensures
+    let l = c.loop-job in
+    placing_whole _ _ c.args.jobs.now l.job-index l.seen c.finish.result l.invariant (omega arith) c.finish.ensures

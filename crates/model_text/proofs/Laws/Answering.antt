@@ -1,61 +1,69 @@
 -- What a record's answer tells of the record, and the reader's answer for each case.
 -- Assumes nothing.
 use Prim.Native.Nat.{ℕ, suc, ◌≤◌, ◌<◌}
-use mathlib.Core.Path.{◌≡◌, refl, sym, ap, ◌∙◌, subst}
+use mathlib.Core.Path.{◌≡◌, refl, sym}
 use mathlib.Core.List.{List}
+use native.Mathlib.Omega.{arith}
 use lib.ListN.{length, replicate}
-use lib.Seq.{sets}
+use mathlib.Core.Bool.{true, false}
+use Rattle.std.specs.Result.{is_err}
 use borrow.Author.Tests.{eq-eqb, ne_eqb, lt-ltb, le-ltb}
+use Rattle.std.proofs.Common.{Some, None, Result, Ok, Err}
 use Rattle.meaning.specs.Text.Ranges.{text_most}
 use Rattle.meaning.specs.Text.Refusals.{too_long, comma_or_stop, wrong_room}
 use Rattle.meaning.specs.Text.Records.{Seen, rec, end, fault, Answer, done, refused, read, first_stop, whole_text}
 use Rattle.meaning.specs.Text.ModelTable.{size}
-use Rattle.meaning.specs.Text.ModelReader.{format, read_model, left}
+use Rattle.meaning.specs.Text.ModelReader.{format, read_model, left, look}
 use Rattle.meaning.proofs.Text.Choices.{nonsense}
-use Rattle.meaning.proofs.Text.ModelLoop.{Reading, reading_first}
-use Rattle.model_text.specs.declared.records.Taken.{Taken}
-use Rattle.model_text.specs.declared.records.Taken.TheVariants.{Next, End, Fault}
-use Rattle.model_text.specs.declared.reading.Read.{Read}
-use Rattle.model_text.specs.declared.reading.Read.TheVariants.{Done, Refused}
-use Rattle.model_text.specs.Meant.{Stepped, Answered}
+use Rattle.meaning.proofs.Text.ModelLoop.{Reading, reading_first, rec_next, reading_more, reading_end, reading_fault}
+use Rattle.refusals.specs.declared.Refusal.{Refusal}
+use Rattle.refusals.specs.Number.{number_of}
+use Rattle.model_text.specs.declared.records.Place.{Place}
+use Rattle.model_text.specs.Meant.{Stepped, meant, Answered}
 
 -- before the first record
-pub reading_start : (s t : List ℕ) → length t ≡ size → t ≡ replicate (length t) 0 → Reading s 0 0 t
-reading_start s t n e = subst (λ (x : List ℕ). Reading s 0 0 x) (sym (e ∙ ap (λ (k : ℕ). replicate k 0) n)) (reading_first s)
+pub reading_start : (s t : List ℕ) → t ≡ replicate size 0 → Reading s 0 0 t
+reading_start s t e = rw e (reading_first s)
 
--- the same place, cursor and table by other names
-pub reading_as : (s : List ℕ) (at i j : ℕ) (t u : List ℕ) → Reading s at i t → i ≡ j → u ≡ t → Reading s at j u
-reading_as s at i j t u r e f = rw (f, sym e) r
+module _ (s : List ℕ) (p : Place) (t t' : List ℕ) (r : Reading s p.at p.cursor t) where
+  -- a record: the reading goes on behind it
+  pub stepped_next : (x : Seen (List ℕ)) (n : Place) → look s p.at p.cursor t ≡ x → Stepped x (Ok (Some n)) t t' → (p.at < n.at) × (n.at ≤ length s) × Reading s n.at n.cursor t'
+  stepped_next (rec j v next) n e w =
+      let a : n.at ≡ next = cc in
+      let b : n.cursor ≡ suc j = cc in
+      let h = rec_next s p.at p.cursor t j v next e in
+      (omega (arith, h), omega (arith, h), rw (a, b, w.1) (reading_more s p.at p.cursor t r j v next e))
+  stepped_next end n e w = nonsense (cc)
+  stepped_next (fault k q) n e w = absurd w.0
 
-module _ (r : Taken) (t t' : List ℕ) where
-  pub stepped_next : (x : Seen (List ℕ)) (next cursor : ℕ) → Stepped x r t t' → r ≡ Next next cursor
-      → (j : ℕ) × (v : List ℕ) × (x ≡ rec j v next) × (suc j ≡ cursor) × (t' ≡ sets t j v)
-  stepped_next (rec j v n) next cursor s e = let a = s.0 in (j, v, (cc), (cc), s.1)
-  stepped_next end next cursor s e = let a = s.0 in nonsense (cc)
-  stepped_next (fault k p) next cursor s e = let a = s.0 in nonsense (cc)
+  -- the last record
+  pub stepped_end : (x : Seen (List ℕ)) → look s p.at p.cursor t ≡ x → Stepped x (Ok None) t t' → done t' ≡ read format s
+  stepped_end (rec j v next) e w = nonsense (cc)
+  stepped_end end e w = rw w.1 (sym (reading_end s p.at p.cursor t r e))
+  stepped_end (fault k q) e w = absurd w.0
 
-  pub stepped_end : (x : Seen (List ℕ)) → Stepped x r t t' → r ≡ End → (x ≡ end) × (t' ≡ t)
-  stepped_end (rec j v n) s e = let a = s.0 in nonsense (cc)
-  stepped_end end s e = (refl, s.1)
-  stepped_end (fault k p) s e = let a = s.0 in nonsense (cc)
-
-  pub stepped_fault : (x : Seen (List ℕ)) (k p : ℕ) → Stepped x r t t' → r ≡ Fault k p → (x ≡ fault k p) × (t' ≡ t)
-  stepped_fault (rec j v n) k p s e = let a = s.0 in nonsense (cc)
-  stepped_fault end k p s e = let a = s.0 in nonsense (cc)
-  stepped_fault (fault l q) k p s e = let a = s.0 in ((cc), s.1)
+  -- a refusal
+  pub stepped_fault : (x : Seen (List ℕ)) (f : Refusal) → look s p.at p.cursor t ≡ x → Stepped x (Err f) t t' → refused (number_of f.reason) f.place ≡ read format s
+  stepped_fault (rec j v next) f e w = nonsense (cc)
+  stepped_fault end f e w = nonsense (cc)
+  stepped_fault (fault k q) f e w = rw (w.0.0, w.0.1) (sym (reading_fault s p.at p.cursor t r k q e))
 
 -- ---- the reader's answer
 
-pub answered_done : (n : ℕ) (a : Answer (List ℕ)) (t : List ℕ) → a ≡ done t → Answered n a Done t
+pub answered_err : (n : ℕ) (a : Answer (List ℕ)) (t : List ℕ) (f : Refusal) → a ≡ refused (number_of f.reason) f.place → t ≡ replicate n 0 → Answered n a (Err f) t
 unfolding left
-answered_done n a t e = rw e (record { answer = refl; table = refl })
+answered_err n a t f e z = rw e (record { answer = refl; table = z })
 
-pub answered_refused : (n : ℕ) (a : Answer (List ℕ)) (t : List ℕ) (k p : ℕ) → a ≡ refused k p → t ≡ replicate n 0 → Answered n a (Refused k p) t
+-- a table that was cleared after a refusal, and one that was read
+pub answered_failed : (n : ℕ) (a : Answer (List ℕ)) (r : Result (Unit {0}) Refusal) (t t' : List ℕ) → meant r t ≡ a → is_err r ≡ true → t' ≡ replicate n 0 → Answered n a r t'
 unfolding left
-answered_refused n a t k p e z = rw e (record { answer = refl; table = z })
+answered_failed n a (Ok x) t t' e f z = nonsense (cc)
+answered_failed n a (Err x) t t' e f z = rw (← e) (record { answer = refl; table = z })
 
-pub answered_as : (n k : ℕ) (a b : Answer (List ℕ)) (r : Read) (t : List ℕ) → n ≡ k → a ≡ b → Answered k b r t → Answered n a r t
-answered_as n k a b r t e f x = rw (e, f) x
+pub answered_read : (n : ℕ) (a : Answer (List ℕ)) (r : Result (Unit {0}) Refusal) (t : List ℕ) → meant r t ≡ a → is_err r ≡ false → Answered n a r t
+unfolding left
+answered_read n a (Ok x) t e f = rw (← e) (record { answer = refl; table = refl })
+answered_read n a (Err x) t e f = nonsense (cc)
 
 module _ (n : ℕ) (s : List ℕ) where
   pub read_room : (n ≡ size → ⊥) → read_model n s ≡ refused wrong_room 0

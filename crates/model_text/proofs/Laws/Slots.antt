@@ -1,164 +1,142 @@
--- The line of a slot, as the code writes it.
+-- The line of a slot, mark by mark.
 -- Assumes nothing.
-use Prim.Native.Nat.{ℕ, zero, suc, ◌+◌, ◌-◌, ◌≤◌, ◌<◌}
+use Prim.Native.Nat.{ℕ, suc, ◌+◌, ◌-◌, ◌/◌, ◌%◌, ◌≤◌, ◌<◌}
 use mathlib.Core.Path.{◌≡◌, refl, sym, ap, ◌∙◌}
-use mathlib.Core.List.{List, [], ◌∷◌, ◌++◌, map}
+use mathlib.Core.List.{List, [], ◌∷◌}
 use mathlib.Core.Bool.{Bool, true, false}
 use native.Mathlib.Omega.{arith}
-use lib.ListN.{length, get_or, set}
-use lib.Seq.{sets}
+use lib.Dec.{eqb}
+use borrow.Author.Tests.{eq-eqb, ne_eqb, lt-ltb, le-ltb}
+use Rattle.std.proofs.Common.{Option, Some}
+use Rattle.std.specs.Bool.{then_some}
+use Rattle.meaning.proofs.Text.ModelCells.{at_edge}
+use lib.ListN.{get_or, set}
 use Rattle.meaning.specs.Text.Choice.{pick}
-use Rattle.meaning.specs.Text.Lines.{Range, fields_text}
-use Rattle.meaning.specs.Text.ModelText.{Mark, po, ck, tk, lo, iv, ed, gu, rs, en, other, form}
-use Rattle.meaning.specs.Text.ModelTable.{size, there}
-use Rattle.meaning.specs.Text.ModelReader.{rule, mark_at, keys_at, line_of, line, words, width, get}
-use Rattle.meaning.proofs.Text.LineLaws.{belows}
-use Rattle.meaning.proofs.Text.ModelCells.{slot_inside}
-use Rattle.meaning.proofs.Text.ModelLaws.{below_is}
-use Rattle.lines.specs.Meant.{no_numbers}
-use Rattle.lines.specs.Put.{Put, firsts}
+use Rattle.meaning.specs.Text.Lines.{fields_text}
+use Rattle.meaning.specs.Text.ModelText as meaning
+use Rattle.meaning.specs.Text.ModelText.{tk, iv, ed, gu, en, other, form}
+use Rattle.meaning.specs.Text.ModelTable.{there}
+use Rattle.meaning.specs.Text.ModelReader.{mark_in_edge, mark_at, keys_at, line_of, line, words, width, get}
+use Rattle.lines.specs.Put.{Put}
 use Rattle.lines.proofs.Laws.Putting.{put_cons}
-use Rattle.model_text.specs.Numbered.{mark_no, RangesAre, MarkAt}
-use Rattle.model_text.specs.declared.rules.Ranges.{Ranges}
-use Rattle.model_text.proofs.Laws.Entering.{pad_get, firsts_same, firsts_drop, ends_few}
+use Rattle.model_text.specs.declared.marks.Mark.{Mark}
+use Rattle.model_text.specs.declared.marks.Mark.TheVariants.{Policy, Clocks, Task, Location, Limit, Edge, Bound, Reset, End}
+use Rattle.model_text.specs.Marks.{kind_of, kind_in, MarkAt, numbers_text}
 
--- a list of at most three, from its array
-pub firsts_pad : (vs : List ℕ) → length vs ≤ 3 → firsts (sets no_numbers 0 vs) 0 (length vs) ≡ vs
-firsts_pad vs h = firsts_same (sets no_numbers 0 vs) vs 0 (length vs) (pad_get vs h) ∙ firsts_drop vs 0 (length vs) (omega arith)
+-- ---- the numbers of a record, and the line feed
+
+module _ (t : List ℕ) (j : ℕ) where
+  pub text_task : numbers_text tk t j ≡ fields_text (0 ∷ 0 ∷ 0 ∷ []) ((get_or t j 0 - 1) ∷ (get_or t (j + 1) 0 - 1) ∷ (get_or t (j + 2) 0 - 1) ∷ [])
+  unfolding numbers_text keys_at words width form
+  text_task = let e₁ : suc j ≡ j + 1 = omega arith in let e₂ : suc (suc j) ≡ j + 2 = omega arith in rw (← e₁, ← e₂)
+
+  pub text_limit : numbers_text iv t j ≡ fields_text (0 ∷ 0 ∷ []) (((j - 20) % 5) ∷ (get_or t j 0 - 1) ∷ [])
+  unfolding numbers_text keys_at words width form
+  text_limit = refl
+
+  pub text_edge : numbers_text ed t j ≡ fields_text (0 ∷ 0 ∷ []) ((get_or t j 0 - 1) ∷ (get_or t (j + 1) 0 - 1) ∷ [])
+  unfolding numbers_text keys_at words width form
+  text_edge = let e₁ : suc j ≡ j + 1 = omega arith in rw (← e₁)
+
+  pub text_bound : numbers_text gu t j ≡ fields_text (0 ∷ 0 ∷ 10000 ∷ []) ((((j - 100) % 31 - 2) / 5) ∷ (((j - 100) % 31 - 2) % 5) ∷ (get_or t j 0 - 1) ∷ [])
+  unfolding numbers_text keys_at words width form
+  text_bound = refl
+
+  pub text_end : numbers_text en t j ≡ fields_text [] []
+  unfolding numbers_text keys_at words width form
+  text_end = refl
+
+-- every other mark has one number
+pub text_one : (q : Mark) (t : List ℕ) (j : ℕ) → (q ≡ Task → ⊥) → (q ≡ Limit → ⊥) → (q ≡ Edge → ⊥) → (q ≡ Bound → ⊥) → (q ≡ End → ⊥)
+    → numbers_text (kind_of q) t j ≡ fields_text (0 ∷ []) ((get_or t j 0 - 1) ∷ [])
+unfolding numbers_text keys_at words width form
+text_one Policy t j a b d e f = refl
+text_one Clocks t j a b d e f = refl
+text_one Task t j a b d e f = absurd (a refl)
+text_one Location t j a b d e f = refl
+text_one Limit t j a b d e f = absurd (b refl)
+text_one Edge t j a b d e f = absurd (d refl)
+text_one Bound t j a b d e f = absurd (e refl)
+text_one Reset t j a b d e f = refl
+text_one End t j a b d e f = absurd (f refl)
+
+pub line_is : (q : meaning.Mark) (t : List ℕ) (j : ℕ) → line_of q j (words t j (width q)) ≡ (form q).first ∷ (form q).second ∷ numbers_text q t j
+unfolding numbers_text line_of
+line_is q t j = refl
+
+-- ---- a slot
 
 -- no line where no record may stand, and where none does
-pub line_other : (t : List ℕ) (j : ℕ) → mark_at j ≡ other → line j (get t j) ≡ []
+pub line_other : (t : List ℕ) (j : ℕ) → other ≡ mark_at j → line j (get t j) ≡ []
 unfolding get words width form line
 line_other t j e = ap (line j) (go (there t j))
   where
     go : (b : Bool) → pick b (words t j (width (mark_at j))) [] ≡ []
-    go true = rw e
+    go true = rw (← e)
     go false = refl
 
 pub line_none : (t : List ℕ) (j : ℕ) → there t j ≡ false → line j (get t j) ≡ []
 unfolding get line
 line_none t j e = rw e
 
--- the numbers of the record in slot j
-abbrev pub numbers : Mark → List ℕ → ℕ → List ℕ
-numbers q t j = keys_at q j ++ map (λ (x : ℕ). x - 1) (words t j (width q))
-
-width_some : (q : Mark) → (form q).closes ≡ false → (n : ℕ) × (width q ≡ suc n)
+width_some : (q : Mark) → (q ≡ End → ⊥) → (n : ℕ) × (width (kind_of q) ≡ suc n)
 unfolding width form
-width_some po e = (0, refl)
-width_some ck e = (0, refl)
-width_some tk e = (2, refl)
-width_some lo e = (0, refl)
-width_some iv e = (0, refl)
-width_some ed e = (1, refl)
-width_some gu e = (0, refl)
-width_some rs e = (0, refl)
-width_some en e = absurd (let z : ◌≡◌ {A = ℕ} 0 1 = cc in omega arith)
-width_some other e = absurd (let z : ◌≡◌ {A = ℕ} 0 1 = cc in omega arith)
+width_some Policy n = (0, refl)
+width_some Clocks n = (0, refl)
+width_some Task n = (2, refl)
+width_some Location n = (0, refl)
+width_some Limit n = (0, refl)
+width_some Edge n = (1, refl)
+width_some Bound n = (0, refl)
+width_some Reset n = (0, refl)
+width_some End n = absurd (n refl)
 
-pub line_some : (t : List ℕ) (j : ℕ) (q : Mark) → q ≡ mark_at j → (form q).closes ≡ false → there t j ≡ true
-    → line j (get t j) ≡ (form q).first ∷ (form q).second ∷ fields_text (form q).below (numbers q t j)
-unfolding get words line line_of
-line_some t j q e c b =
-    let w = width_some q c in
+pub line_some : (t : List ℕ) (j : ℕ) (q : Mark) → kind_of q ≡ mark_at j → (q ≡ End → ⊥) → there t j ≡ true → line j (get t j) ≡ line_of (kind_of q) j (words t j (width (kind_of q)))
+unfolding get words line
+line_some t j q e n b =
+    let w = width_some q n in
     let f : width (mark_at j) ≡ suc w.0 = ap width (sym e) ∙ w.1 in
     rw (b, f, sym e, w.1)
-
--- as many numbers as fields
-pub numbers_many : (q : Mark) (t : List ℕ) (j : ℕ) → (form q).closes ≡ false → length (numbers q t j) ≡ length (form q).below
-unfolding keys_at words width form
-numbers_many po t j e = refl
-numbers_many ck t j e = refl
-numbers_many tk t j e = refl
-numbers_many lo t j e = refl
-numbers_many iv t j e = refl
-numbers_many ed t j e = refl
-numbers_many gu t j e = refl
-numbers_many rs t j e = refl
-numbers_many en t j e = absurd (let z : ◌≡◌ {A = ℕ} 0 1 = cc in omega arith)
-numbers_many other t j e = absurd (let z : ◌≡◌ {A = ℕ} 0 1 = cc in omega arith)
-
-map_below : (es : List Range) → map (λ (e : Range). e.below) es ≡ belows es
-map_below [] = refl
-map_below (e ∷ es) = ap (λ (l : List ℕ). e.below ∷ l) (map_below es)
-
-belows_length : (es : List Range) → length (belows es) ≡ length es
-belows_length [] = refl
-belows_length (e ∷ es) = ap suc (belows_length es)
-
--- the marks 1 to 8 go on
-pub goes : (q : ℕ) → 0 < q → q ≤ 8 → (form (mark_no q)).closes ≡ false
-unfolding form mark_no
-goes zero a b = absurd (omega arith)
-goes (suc zero) a b = refl
-goes (suc (suc zero)) a b = refl
-goes (suc (suc (suc zero))) a b = refl
-goes (suc (suc (suc (suc zero)))) a b = refl
-goes (suc (suc (suc (suc (suc zero))))) a b = refl
-goes (suc (suc (suc (suc (suc (suc zero)))))) a b = refl
-goes (suc (suc (suc (suc (suc (suc (suc zero))))))) a b = refl
-goes (suc (suc (suc (suc (suc (suc (suc (suc zero)))))))) a b = refl
-goes (suc (suc (suc (suc (suc (suc (suc (suc (suc q))))))))) a b = absurd (omega arith)
-
--- and the last of them is 8
-pub is_eight : (q : ℕ) → 0 < q → q ≤ 8 → (q ≡ 1 → ⊥) → (q ≡ 2 → ⊥) → (q ≡ 3 → ⊥) → (q ≡ 4 → ⊥) → (q ≡ 5 → ⊥) → (q ≡ 6 → ⊥) → (q ≡ 7 → ⊥) → q ≡ 8
-is_eight zero a b n₁ n₂ n₃ n₄ n₅ n₆ n₇ = absurd (omega arith)
-is_eight (suc zero) a b n₁ n₂ n₃ n₄ n₅ n₆ n₇ = absurd (n₁ refl)
-is_eight (suc (suc zero)) a b n₁ n₂ n₃ n₄ n₅ n₆ n₇ = absurd (n₂ refl)
-is_eight (suc (suc (suc zero))) a b n₁ n₂ n₃ n₄ n₅ n₆ n₇ = absurd (n₃ refl)
-is_eight (suc (suc (suc (suc zero)))) a b n₁ n₂ n₃ n₄ n₅ n₆ n₇ = absurd (n₄ refl)
-is_eight (suc (suc (suc (suc (suc zero))))) a b n₁ n₂ n₃ n₄ n₅ n₆ n₇ = absurd (n₅ refl)
-is_eight (suc (suc (suc (suc (suc (suc zero)))))) a b n₁ n₂ n₃ n₄ n₅ n₆ n₇ = absurd (n₆ refl)
-is_eight (suc (suc (suc (suc (suc (suc (suc zero))))))) a b n₁ n₂ n₃ n₄ n₅ n₆ n₇ = absurd (n₇ refl)
-is_eight (suc (suc (suc (suc (suc (suc (suc (suc zero)))))))) a b n₁ n₂ n₃ n₄ n₅ n₆ n₇ = refl
-is_eight (suc (suc (suc (suc (suc (suc (suc (suc (suc q))))))))) a b n₁ n₂ n₃ n₄ n₅ n₆ n₇ = absurd (omega arith)
-
--- the records of one number: 1, 2, 4 and 8
-pub one_number : (q : ℕ) (t : List ℕ) (j : ℕ) → 0 < q → q ≤ 8 → (q ≡ 3 → ⊥) → (q ≡ 5 → ⊥) → (q ≡ 6 → ⊥) → (q ≡ 7 → ⊥) → numbers (mark_no q) t j ≡ (get_or t j 0 - 1) ∷ []
-unfolding mark_no keys_at width form words
-one_number zero t j a b n₃ n₅ n₆ n₇ = absurd (omega arith)
-one_number (suc zero) t j a b n₃ n₅ n₆ n₇ = refl
-one_number (suc (suc zero)) t j a b n₃ n₅ n₆ n₇ = refl
-one_number (suc (suc (suc zero))) t j a b n₃ n₅ n₆ n₇ = absurd (n₃ refl)
-one_number (suc (suc (suc (suc zero)))) t j a b n₃ n₅ n₆ n₇ = refl
-one_number (suc (suc (suc (suc (suc zero))))) t j a b n₃ n₅ n₆ n₇ = absurd (n₅ refl)
-one_number (suc (suc (suc (suc (suc (suc zero)))))) t j a b n₃ n₅ n₆ n₇ = absurd (n₆ refl)
-one_number (suc (suc (suc (suc (suc (suc (suc zero))))))) t j a b n₃ n₅ n₆ n₇ = absurd (n₇ refl)
-one_number (suc (suc (suc (suc (suc (suc (suc (suc zero)))))))) t j a b n₃ n₅ n₆ n₇ = refl
-one_number (suc (suc (suc (suc (suc (suc (suc (suc (suc q))))))))) t j a b n₃ n₅ n₆ n₇ = absurd (omega arith)
-
--- the cells of a record lie within the table
-pub slot_fits : (q j : ℕ) (x : Mark) → j < size → MarkAt j q → mark_no q ≡ x → j + width x ≤ size
-slot_fits q j x h m e = rw (sym e, m.is) (slot_inside j h)
-
--- the fields that are written, from the arrays
-pub fields_are : (q : Mark) (m : List ℕ) (g : Ranges) (t v : List ℕ) (j : ℕ) → (form q).closes ≡ false → RangesAre (rule q m).ends g → v ≡ sets no_numbers 0 (numbers q t j)
-    → fields_text (firsts g.below 0 g.n) (firsts v 0 g.n) ≡ fields_text (form q).below (numbers q t j)
-fields_are q m g t v j c r e =
-    let b = below_is q m in
-    let n = numbers_many q t j c in
-    let k : g.n ≡ length (form q).below = r.many ∙ sym (belows_length (rule q m).ends) ∙ ap length b in
-    let few : length (form q).below ≤ 3 = (let a = ends_few q m in omega (arith, r.many)) in
-    let x : firsts g.below 0 g.n ≡ (form q).below =
-    ap (λ (l : List ℕ). firsts l 0 g.n) (r.below ∙ ap (sets no_numbers 0) (map_below (rule q m).ends ∙ b)) ∙ ap (firsts (sets no_numbers 0 (form q).below) 0) k ∙ firsts_pad (form q).below few in
-    let y : firsts v 0 g.n ≡ numbers q t j =
-    ap (λ (l : List ℕ). firsts l 0 g.n) e ∙ ap (firsts (sets no_numbers 0 (numbers q t j)) 0) (k ∙ sym n) ∙ firsts_pad (numbers q t j) (omega arith) in
-    rw (x, y)
-
--- ---- small facts
-
-pub two_on : (r : ℕ) → (r ≡ 0 → ⊥) → (r ≡ 1 → ⊥) → 2 ≤ r
-two_on r a b = omega arith
-
-pub not_zero : (q : ℕ) → (q ≡ 0 → ⊥) → 0 < q
-not_zero q n = omega arith
-
-pub mark_zero : (q : ℕ) → q ≡ 0 → mark_no q ≡ other
-unfolding mark_no
-mark_zero q e = rw e
 
 -- two bytes, and then the rest
 pub put_two : (b : List ℕ) (at x y : ℕ) (xs b' : List ℕ) (r : ℕ) → Put (set (set b at x) (at + 1) y) (at + 2) xs b' r → Put b at (x ∷ y ∷ xs) b' r
 put_two b at x y xs b' r p =
     let z : at + 2 ≡ at + 1 + 1 = omega arith in
     put_cons b at x (y ∷ xs) b' r (put_cons (set b at x) (at + 1) y xs b' r (rw z at p))
+
+-- ---- the mark of a slot
+
+pub policy_at : MarkAt 0 (Some Policy)
+unfolding mark_at
+policy_at = record { is = refl; few = λ e. cc; limit = λ e. absurd (cc); bound = λ e. absurd (cc) }
+
+pub clocks_at : MarkAt 1 (Some Clocks)
+unfolding mark_at
+clocks_at = record { is = refl; few = λ e. cc; limit = λ e. absurd (cc); bound = λ e. absurd (cc) }
+
+pub task_at : (j : ℕ) → 2 ≤ j → j < 20 → MarkAt j (then_some (eqb ((j - 2) % 3) 0) Task)
+unfolding mark_at
+task_at j a b = go (eqb ((j - 2) % 3) 0) refl
+  where
+    go : (t : Bool) → eqb ((j - 2) % 3) 0 ≡ t → MarkAt j (then_some t Task)
+    go true e = record { is = rw (le-ltb j 1 (omega arith), le-ltb j 2 a, lt-ltb j 20 b, e); few = λ e. cc; limit = λ e. absurd (cc); bound = λ e. absurd (cc) }
+    go false e = record { is = rw (le-ltb j 1 (omega arith), le-ltb j 2 a, lt-ltb j 20 b, e); few = λ e. cc; limit = λ e. absurd (cc); bound = λ e. absurd (cc) }
+
+pub location_at : (j : ℕ) → 20 ≤ j → j < 100 → (j - 20) % 5 ≡ 0 → MarkAt j (Some Location)
+unfolding mark_at
+location_at j a b e =
+    record { is = rw (le-ltb j 1 (omega arith), le-ltb j 2 (omega arith), le-ltb j 20 a, lt-ltb j 100 b, eq-eqb _ 0 e); few = λ e. cc; limit = λ e. a; bound = λ e. absurd (cc) }
+
+pub limit_at : (j : ℕ) → 20 ≤ j → j < 100 → ((j - 20) % 5 ≡ 0 → ⊥) → MarkAt j (Some Limit)
+unfolding mark_at
+limit_at j a b n =
+    record { is = rw (le-ltb j 1 (omega arith), le-ltb j 2 (omega arith), le-ltb j 20 a, lt-ltb j 100 b, ne_eqb _ 0 n); few = λ e. cc; limit = λ e. a; bound = λ e. absurd (cc) }
+
+pub edge_at : (j : ℕ) (q : Option Mark) → 100 ≤ j → kind_in q ≡ mark_in_edge ((j - 100) % 31) → (q ≡ Some End → ⊥) → (q ≡ Some Limit → ⊥) → (q ≡ Some Bound → 2 ≤ (j - 100) % 31) → MarkAt j q
+edge_at j q h e n l b = record { is = e ∙ sym (at_edge j h); few = n; limit = λ z. absurd (l z); bound = λ z. (h, b z) }
+
+pub ruleset mark_at_laws = (policy_at, clocks_at, task_at, location_at, limit_at)
+
+pub ruleset text_laws = (text_task, text_limit, text_edge, text_bound, text_end, text_one)
+
+pub ruleset line_laws = (line_other, line_none, line_some)

@@ -5,13 +5,15 @@ use mathlib.Core.Path.{◌≡◌, refl, sym, ap, ◌∙◌, subst}
 use mathlib.Core.List.{List, [], ◌∷◌, ◌++◌}
 use native.Mathlib.Omega.{arith}
 use native.Mathlib.Numerals.{add-one}
-use lib.ListN.{length, set, length-append}
+use lib.ListN.{length, length-append}
 use Rattle.meaning.specs.Text.Records.{lines_to, write}
+use Rattle.meaning.specs.Text.Lines.{fields_text}
+use Rattle.meaning.specs.Text.ModelText.{en, form}
 use Rattle.meaning.specs.Text.ModelTable.{size}
-use Rattle.meaning.specs.Text.ModelReader.{line, get, format}
+use Rattle.meaning.specs.Text.ModelReader.{line, line_of, get, keys_at, words, width, format}
 use Rattle.meaning.proofs.Text.Choices.{by_lt}
 use Rattle.lines.specs.Put.{Put}
-use Rattle.lines.proofs.Laws.Putting.{put_byte, put_then, put_cons}
+use Rattle.lines.proofs.Laws.Putting.{put_then}
 
 module _ (t : List ℕ) where
   pub lines_none : lines_to format t 0 ≡ []
@@ -44,10 +46,19 @@ module _ (t : List ℕ) where
   pub put_slot : (b b₁ b₂ : List ℕ) (j at r : ℕ) → Put b 0 (lines_to format t j) b₁ at → Put b₁ at (line j (get t j)) b₂ r → Put b 0 (lines_to format t (j + 1)) b₂ r
   put_slot b b₁ b₂ j at r p q = rw (add-one, lines_more j) (put_then b 0 (lines_to format t j) (line j (get t j)) b₁ b₂ at r p q)
 
-  pub put_last : (b b₁ : List ℕ) (j at : ℕ) → j ≡ size → Put b 0 (lines_to format t j) b₁ at → Put b 0 (write format t) (set (set (set b₁ at 69) (at + 1) 78) (at + 2) 10) (at + 3)
-  put_last b b₁ j at e p =
-      let z : at + 2 ≡ at + 1 + 1 = omega arith in
-      let y : at + 3 ≡ at + 1 + 1 + 1 = omega arith in
-      let p' = subst (λ (k : ℕ). Put b 0 (lines_to format t k) b₁ at) e p in
-      rw (write_is, y, z) (put_then b 0 (lines_to format t size) (69 ∷ 78 ∷ 10 ∷ []) b₁ (set (set (set b₁ at 69) (at + 1) 78) (at + 1 + 1) 10) at (at + 1 + 1 + 1) p'
-      (put_cons b₁ at 69 (78 ∷ 10 ∷ []) _ _ (put_cons (set b₁ at 69) (at + 1) 78 (10 ∷ []) _ _ (put_byte (set (set b₁ at 69) (at + 1) 78) (at + 1 + 1) 10))))
+  -- the last line is that of EN
+  pub last_is : 69 ∷ 78 ∷ 10 ∷ [] ≡ line_of en size (words t size (width en))
+  unfolding line_of form keys_at width words fields_text
+  last_is = refl
+
+  pub put_last : (b b₁ b₂ : List ℕ) (j at r : ℕ) → j ≡ size → Put b 0 (lines_to format t j) b₁ at → Put b₁ at (line_of en size (words t size (width en))) b₂ r → Put b 0 (write format t) b₂ r
+  put_last b b₁ b₂ j at r e p q =
+      rw write_is
+      (subst (λ (l : List ℕ). Put b 0 (lines_to format t size ++ l) b₂ r) (sym last_is)
+      (put_then b 0 (lines_to format t size) (line_of en size (words t size (width en))) b₁ b₂ at r (rw e at p) q))
+
+  pub last_room : (b b₁ : List ℕ) (j at : ℕ) → j ≡ size → length b₁ ≡ length b → length (write format t) ≤ length b → Put b 0 (lines_to format t j) b₁ at
+      → at + length (line_of en size (words t size (width en))) ≤ length b₁
+  last_room b b₁ j at e n h p = omega (arith, end_room j e, p.next, ap length last_is)
+
+pub ruleset room_laws = (lines_none, slot_room, last_room)

@@ -4,7 +4,7 @@ use lib.IntN.{negsuc}
 use Rattle.bounds.proofs.Ranges.{ready_tighten}
 use Rattle.try_bounds.proofs.show_least.Goals as goal
 
-pub least-y-requires : goal.least-y-requires
-least-y-requires c =
-    let R = ready_tighten c.args.m 6 1 5 (negsuc 2) c.tighten-t.result.m 6 640002 (omega arith) (omega arith) c.requires.ready (omega arith) (omega arith) (c.tighten-t.ensures.done c.if-t.false) in
+pub least-requires : goal.least-requires
+least-requires c =
+    let R = ready_tighten c.args.m 6 1 5 (negsuc 2) c.in-Some.r 6 640002 (omega arith) (omega arith) c.requires.ready (omega arith) (omega arith) c.in-Some.ensures in
     record { n_bound = omega arith; entries = (R.entries, R.closed) }

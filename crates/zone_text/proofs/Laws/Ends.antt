@@ -21,8 +21,10 @@ use Rattle.meaning.specs.Text.ProposalReader as reader
 use Rattle.meaning.proofs.Text.Choices.{nonsense}
 use Rattle.meaning.proofs.Text.Keyed.{nth_some}
 use Rattle.meaning.proofs.Text.ProposalEncode.{pool_cell}
+use Rattle.zone_text.specs.declared.reading_records.Due.{Due}
 use Rattle.zone_text.specs.declared.reading_records.Sofar.{Sofar}
-use Rattle.zone_text.specs.declared.reading_records.Taken.TheVariants.{End}
+use Rattle.std.specs.Prelude.{None, Ok}
+use Rattle.std.specs.Option.{is_some}
 use Rattle.zone_list.specs.Counted.{numbers_in}
 use Rattle.zone_table.specs.Read.{none_above}
 use Rattle.zone_text.specs.Held.{Holds, Stands, Took}
@@ -43,26 +45,26 @@ all_up n [] = refl
 all_up n (z ∷ zs) = every_append (λ (c : ℕ). leb c n) z.claims (all_claims zs) ∙ ap (λ (b : Bool). every (λ (c : ℕ). leb c n) z.claims && b) (all_up n zs)
 
 -- the end of the text
-pub took_closed : (m : Model) (s : List ℕ) (at : ℕ) (y : reader.Sofar) (t : List ℕ) → look_end m s at y ≡ closed → Took (look_end m s at y) y End t t
+pub took_closed : (m : Model) (s : List ℕ) (at : ℕ) (y : reader.Sofar) (t : List ℕ) → look_end m s at y ≡ closed → Took (look_end m s at y) y (Ok None) t t
 took_closed m s at y t e = rw e (refl, refl)
 
 module _ (m : Model) (s : List ℕ) (at : ℕ) (y : reader.Sofar) (x : Sofar) (t : List ℕ) (h : Holds m y x t) where
-  pub end_due : x.due ≡ true → look_end m s at y ≡ wrong mark_not_here at
+  pub end_due : is_some x.due ≡ true → look_end m s at y ≡ wrong mark_not_here at
   unfolding look_end
   end_due d = go y h.stands
     where
       go : (y : reader.Sofar) → Stands y x → look_end m s at y ≡ wrong mark_not_here at
-      go (whole zs) w = let e = w.1 in nonsense (cc)
+      go (whole zs) w = let e : is_some {T = Due} None ≡ true = rw w.1 at d in nonsense (cc)
       go (begun zs z) w = refl
 
-  module _ (d : x.due ≡ false) where
+  module _ (d : is_some x.due ≡ false) where
     pub end_none : x.zones ≡ 0 → look_end m s at y ≡ wrong mark_not_here at
     unfolding look_end
     end_none n = go y h.stands
       where
         go : (y : reader.Sofar) → Stands y x → look_end m s at y ≡ wrong mark_not_here at
         go (whole zs) w = rw (le-ltb 0 (length zs) (omega (arith, w.0)))
-        go (begun zs z) w = let e = w.1 in nonsense (cc)
+        go (begun zs z) w = let e = rw w.1 at d in nonsense (cc)
 
     module _ (n : x.zones ≡ 0 → ⊥) where
       pub end_open : eqb (get_or s (at + 2) 0) 10 ≡ false → look_end m s at y ≡ wrong broken_line (at + 2)
@@ -75,7 +77,7 @@ module _ (m : Model) (s : List ℕ) (at : ℕ) (y : reader.Sofar) (x : Sofar) (t
               some : (zs : List Zone) → x.zones ≡ length zs → 0 < length zs
               some [] e = absurd (n e)
               some (z ∷ zs) e = omega arith
-          go (begun zs z) w = let e = w.1 in nonsense (cc)
+          go (begun zs z) w = let e = rw w.1 at d in nonsense (cc)
 
       module _ (f : eqb (get_or s (at + 2) 0) 10 ≡ true) (p : x.pool ≤ 32767) where
         -- by whether no claim is above the last zone, and whether the text goes on
@@ -95,7 +97,7 @@ module _ (m : Model) (s : List ℕ) (at : ℕ) (y : reader.Sofar) (x : Sofar) (t
             by_two false e = refl
 
             go : (y : reader.Sofar) → Stands y x → t ≡ encode (proposal_of y) → look_end m s at y ≡ pick u (pick v (wrong mark_not_here (at + 3)) closed) (wrong wrong_claims at)
-            go (begun zs z) w tb = let e = w.1 in nonsense (cc)
+            go (begun zs z) w tb = let e = rw w.1 at d in nonsense (cc)
             go (whole zs) w tb =
                 let q : numbers_in t 14256 x.pool ≡ all_claims zs =
                 rw (w.2, tb) (numbers_row (encode (record { zones = zs })) (all_claims zs) 14256 (λ k c e. let l = nth_some (all_claims zs) k c e in let i = w.2 in pool_cell (record { zones = zs }) k (omega arith) ∙ rw e)) in

@@ -25,13 +25,16 @@ use Rattle.meaning.proofs.Text.ProposalEncode.{encode_length, head_cell_lem, bou
 use Rattle.meaning.proofs.Text.ProposalStore.{by_cell, claims_more}
 use Rattle.meaning.proofs.Text.ProposalLoop.{ReadingTo, look_next, pool_more}
 use Rattle.meaning.proofs.Text.RecordRowLoop.{reading_first, reading_more, reading_closed, reading_wrong}
+use Rattle.std.specs.Prelude.{Option, Some, None, Result, Ok, Err}
+use Rattle.std.specs.Result.{is_err}
+use Rattle.refusals.specs.declared.Reason.{Reason}
+use Rattle.refusals.specs.declared.Refusal.{Refusal}
+use Rattle.refusals.specs.Number.{number_of}
+use Rattle.zone_text.specs.declared.reading_records.Due.{Due}
 use Rattle.zone_text.specs.declared.reading_records.Sofar.{Sofar}
-use Rattle.zone_text.specs.declared.reading_records.Taken.{Taken}
-use Rattle.zone_text.specs.declared.reading_records.Taken.TheVariants.{Next, End, Fault}
-use Rattle.zone_text.specs.declared.reading.Read.{Read}
-use Rattle.zone_text.specs.declared.reading.Read.TheVariants.{Done, Refused}
-use Rattle.zone_text.specs.Held.{Holds, Ready, Sound, Stands, Begun, Took}
-use Rattle.zone_text.specs.Meant.{Answered}
+use Rattle.zone_text.specs.declared.reading_records.Next as declared
+use Rattle.zone_text.specs.Held.{Holds, Ready, Sound, Stands, Begun, Took, behind}
+use Rattle.zone_text.specs.Meant.{meant, Answered}
 use Rattle.zone_text.proofs.Laws.Claims.{begun_is}
 
 -- ---- the table before the first record
@@ -61,14 +64,14 @@ pub record ReadingAt (b s : List ℕ) (at : ℕ) (x : Sofar) (t : List ℕ) : Ty
   pub pool : 2 * length (all_claims (proposal_of sofar).zones) ≤ at
 
 pub reading_start : (b s t : List ℕ) → RightTable b → length s ≤ text_most → length t ≡ size → t ≡ replicate (length t) 0
-    → ReadingAt b s 0 (record { zones = 0; due = false; len = 0; cursor = 0; pool = 0 }) t
+    → ReadingAt b s 0 (record { zones = 0; pool = 0; due = None }) t
 unfolding proposal_of
 reading_start b s t g h n e = record {
   model = g;
   short = h;
   sofar = whole [];
   reading = reading_first (row (decode b)) (lawful (decode b) g.right) (λ s at x w k e. look_next (decode b) s at g.right x w k e) s;
-  stands = (refl, refl, refl, refl);
+  stands = (refl, refl, refl);
   table = e ∙ ap (λ (k : ℕ). replicate k 0) n ∙ empty_table;
   pool = omega arith;
 }
@@ -99,8 +102,7 @@ module _ (b s : List ℕ) (at : ℕ) (x : Sofar) (t : List ℕ) (r : ReadingAt b
         short = r.short;
         within = r.reading.within;
         zones = omega (arith, w.0, g.0);
-        due = λ q. nonsense (let p = w.1 in (cc));
-        len = omega (arith, w.3);
+        due = λ o q. nonsense (let p = w.1 in (cc));
         pool = omega (arith, w.2);
       }
       go (begun zs z) g w e p = record {
@@ -108,72 +110,81 @@ module _ (b s : List ℕ) (at : ℕ) (x : Sofar) (t : List ℕ) (r : ReadingAt b
         short = r.short;
         within = r.reading.within;
         zones = omega (arith, w.0, g.0);
-        due = λ q. omega (arith, w.0, g.0);
-        len = omega (arith, w.3, g.2.few);
+        due = λ o q.
+            let e : o ≡ record { len = length z.order; cursor = behind z.bounds } = (let p = w.1 in cc) in
+            (omega (arith, w.0, g.0), omega (arith, ap (λ (u : Due). u.len) e, g.2.few));
         pool = omega (arith, w.2, ap length (claims_more zs z), length-append (all_claims zs) z.claims);
       }
 
   pub begun_ready : Begun (decode b) x t
   begun_ready = begun_is (decode b) r.sofar x t is_sound r.stands r.table
 
-  module _ (p : Taken) (t' : List ℕ) (w : Took (look (decode b) s at r.sofar) r.sofar p t t') where
-    pub turn_next : (k : ℕ) (c : Sofar) → p ≡ Next k c → (at < k) × (k ≤ length s) × ReadingAt b s k c t'
-    turn_next k c e = go (look (decode b) s at r.sofar) refl w
+  module _ (p : Result (Option declared.Next) Refusal) (t' : List ℕ) (w : Took (look (decode b) s at r.sofar) r.sofar p t t') where
+    pub turn_next : (n : declared.Next) → p ≡ Ok (Some n) → (at < n.at) × (n.at ≤ length s) × ReadingAt b s n.at n.sofar t'
+    turn_next n e = go (look (decode b) s at r.sofar) refl w
       where
-        go : (u : Met Entry) → look (decode b) s at r.sofar ≡ u → Took u r.sofar p t t' → (at < k) × (k ≤ length s) × ReadingAt b s k c t'
+        go : (u : Met Entry) → look (decode b) s at r.sofar ≡ u → Took u r.sofar p t t' → (at < n.at) × (n.at ≤ length s) × ReadingAt b s n.at n.sofar t'
         go closed q v = let a = v.0 in nonsense (cc)
-        go (wrong n i) q v = nonsense (cc)
+        go (wrong k i) q v = let a = v.1 in nonsense (cc)
         go (next y i) q v =
             let a = v.1 in
-            let k₁ : i ≡ k = cc in
-            let c₁ : v.0 ≡ c = cc in
-            let q₁ = q ∙ ap (next y) k₁ in
-            let l = look_next (decode b) s at r.model.right r.sofar y k q₁ in (
+            let f : record { at = i; sofar = v.0 } ≡ n = cc in
+            let q₁ = q ∙ ap (next y) (ap (λ (z : declared.Next). z.at) f) in
+            let l = look_next (decode b) s at r.model.right r.sofar y n.at q₁ in (
               l.0,
               l.1,
               record {
                 model = r.model;
                 short = r.short;
                 sofar = put r.sofar y;
-                reading = reading_more (row (decode b)) (lawful (decode b) r.model.right) (λ s at x w k e. look_next (decode b) s at r.model.right x w k e) s at r.sofar r.reading y k q₁;
-                stands = subst (λ (z : Sofar). Stands (put r.sofar y) z) c₁ v.2;
+                reading = reading_more (row (decode b)) (lawful (decode b) r.model.right) (λ s at x w k e. look_next (decode b) s at r.model.right x w k e) s at r.sofar r.reading y n.at q₁;
+                stands = subst (λ (z : declared.Next). Stands (put r.sofar y) z.sofar) f v.2;
                 table = v.3;
-                pool = pool_more (decode b) r.model.right s at r.sofar y k (good r.sofar is_sound) r.reading.within q₁ r.pool;
+                pool = pool_more (decode b) r.model.right s at r.sofar y n.at (good r.sofar is_sound) r.reading.within q₁ r.pool;
               },
             )
 
-    pub turn_end : p ≡ End → Answered size (stored (read (row (decode b)) s)) Done t'
-    unfolding stored left
+    pub turn_end : p ≡ Ok None → meant (Ok tt) t' ≡ stored (read (row (decode b)) s)
+    unfolding stored
     turn_end e = go (look (decode b) s at r.sofar) refl w
       where
-        go : (u : Met Entry) → look (decode b) s at r.sofar ≡ u → Took u r.sofar p t t' → Answered size (stored (read (row (decode b)) s)) Done t'
+        go : (u : Met Entry) → look (decode b) s at r.sofar ≡ u → Took u r.sofar p t t' → meant (Ok tt) t' ≡ stored (read (row (decode b)) s)
         go (next y i) q v = let a = v.1 in nonsense (cc)
-        go (wrong n i) q v = nonsense (cc)
+        go (wrong n i) q v = let a = v.1 in nonsense (cc)
         go closed q v =
             let d = reading_closed (row (decode b)) (lawful (decode b) r.model.right) (λ s at x w k e. look_next (decode b) s at r.model.right x w k e) s at r.sofar r.reading q in
-            rw d (record { answer = ap done (v.1 ∙ r.table); table = v.1 ∙ r.table })
+            rw d (ap done (v.1 ∙ r.table))
 
-    pub turn_fault : (k i : ℕ) (u : List ℕ) → p ≡ Fault k i → u ≡ replicate size 0 → Answered size (stored (read (row (decode b)) s)) (Refused k i) u
-    unfolding stored left
-    turn_fault k i u e z = go (look (decode b) s at r.sofar) refl w
+    pub turn_fault : (e : Refusal) → p ≡ Err e → meant (Err e) t' ≡ stored (read (row (decode b)) s)
+    unfolding stored
+    turn_fault e q = go (look (decode b) s at r.sofar) refl w
       where
-        go : (l : Met Entry) → look (decode b) s at r.sofar ≡ l → Took l r.sofar p t t' → Answered size (stored (read (row (decode b)) s)) (Refused k i) u
-        go (next y j) q v = let a = v.1 in nonsense (cc)
-        go closed q v = let a = v.0 in nonsense (cc)
-        go (wrong n j) q v =
-            let k₁ : n ≡ k = cc in
-            let i₁ : j ≡ i = cc in
-            let d = reading_wrong (row (decode b)) (lawful (decode b) r.model.right) (λ s at x w k e. look_next (decode b) s at r.model.right x w k e) s at r.sofar r.reading n j q in
-            rw d (record { answer = rw (k₁, i₁); table = z })
+        go : (l : Met Entry) → look (decode b) s at r.sofar ≡ l → Took l r.sofar p t t' → meant (Err e) t' ≡ stored (read (row (decode b)) s)
+        go (next y j) f v = let a = v.1 in nonsense (cc)
+        go closed f v = let a = v.0 in nonsense (cc)
+        go (wrong n j) f v =
+            let a = v.1 in
+            let g : v.0 ≡ e = cc in
+            let d = reading_wrong (row (decode b)) (lawful (decode b) r.model.right) (λ s at x w k e. look_next (decode b) s at r.model.right x w k e) s at r.sofar r.reading n j f in
+            rw (d, v.2, v.3, g)
 
 -- ---- the reader as it is called
 
-pub answered_refused : (n : ℕ) (a : Answer (List ℕ)) (t : List ℕ) (k p : ℕ) → a ≡ refused k p → t ≡ replicate n 0 → Answered n a (Refused k p) t
+pub answered_refused : (n : ℕ) (a : Answer (List ℕ)) (t : List ℕ) (b : Reason) (p : ℕ) (e : Refusal) → e ≡ record { reason = b; place = p } → a ≡ refused (number_of b) p → t ≡ replicate n 0 → Answered n a (Err e) t
 unfolding left
-answered_refused n a t k p e z = rw e (record { answer = refl; table = z })
+answered_refused n a t b p e q f z = rw (f, q) (record { answer = refl; table = z })
 
-pub answered_as : (n k : ℕ) (a b : Answer (List ℕ)) (r : Read) (t : List ℕ) → n ≡ k → a ≡ b → Answered k b r t → Answered n a r t
-answered_as n k a b r t e f x = rw (e, f) x
+-- what was read, or a refusal behind which the table is cleared
+module _ (n : ℕ) (a b : Answer (List ℕ)) (e : a ≡ b) where
+  pub answered_ok : (r : Result (Unit {0}) Refusal) (t : List ℕ) → meant r t ≡ b → is_err r ≡ false → Answered n a r t
+  unfolding left
+  answered_ok (Ok u) t q f = rw (e, sym q) (record { answer = refl; table = refl })
+  answered_ok (Err g) t q f = nonsense (cc)
+
+  pub answered_err : (r : Result (Unit {0}) Refusal) (t t' : List ℕ) → meant r t ≡ b → is_err r ≡ true → t' ≡ replicate n 0 → Answered n a r t'
+  unfolding left
+  answered_err (Ok u) t t' q f z = nonsense (cc)
+  answered_err (Err g) t t' q f z = rw (e, sym q) (record { answer = refl; table = z })
 
 module _ (m : Model) (n : ℕ) (s : List ℕ) where
   pub read_room : (n ≡ size → ⊥) → read_proposal true m n s ≡ refused wrong_room 0

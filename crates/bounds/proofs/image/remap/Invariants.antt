@@ -1,6 +1,6 @@
--- What the loops of `remap` keep, and how they end.
+-- What the loops of `remap` keep.
 use mathlib.Core.List.{List}
-use Prim.Native.Nat.{ℕ, ◌+◌, ◌-◌, ◌*◌, ◌≤◌}
+use Prim.Native.Nat.{ℕ, ◌+◌, ◌*◌, ◌≤◌}
 use lib.IntN.{ℤ, pos}
 use lib.ListN.{replicate}
 use Rattle.bounds.specs.Matrix.{ent, at}
@@ -20,11 +20,5 @@ blank = replicate 289 (pos 0)
 abbrev pub invariant-loop-b : goal.invariant-loop-b
 invariant-loop-b l = (l.b ≤ l.n) × Upto (Cell l.m l.p l.off) blank l.n l.r (l.a * 17 + l.b)
 
-abbrev pub decreases-loop-b : goal.decreases-loop-b
-decreases-loop-b l = l.n - l.b
-
 abbrev pub invariant-loop-a : goal.invariant-loop-a
 invariant-loop-a l = (l.a ≤ l.n) × Upto (Cell l.m l.p l.off) blank l.n l.r (l.a * 17)
-
-abbrev pub decreases-loop-a : goal.decreases-loop-a
-decreases-loop-a l = l.n - l.a

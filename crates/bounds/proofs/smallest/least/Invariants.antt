@@ -1,6 +1,6 @@
--- What the loops of `least` keep, and how they end.
+-- What the loop of `least` keeps.
 use mathlib.Core.Path.{◌≡◌}
-use Prim.Native.Nat.{ℕ, ◌+◌, ◌-◌, ◌<◌, ◌≤◌}
+use Prim.Native.Nat.{ℕ, ◌+◌, ◌<◌, ◌≤◌}
 use lib.ListN.{length}
 use Rattle.bounds.specs.Matrix.{at}
 use Rattle.bounds.specs.Images.{var}
@@ -8,7 +8,8 @@ use Rattle.meaning.specs.Numbers.{over, under}
 use Rattle.bounds.proofs.smallest.least.Given as goal
 
 abbrev pub invariant-loop-k : goal.invariant-loop-k
-invariant-loop-k l = (l.k ≤ l.n) × (length l.r ≡ 17) × ((q : ℕ) → q < l.k → var l.r q + over (at l.m 0 q) ≡ under (at l.m 0 q)) × ((q : ℕ) → l.k ≤ q → var l.r q ≡ 0)
-
-abbrev pub decreases-loop-k : goal.decreases-loop-k
-decreases-loop-k l = l.n - l.k
+invariant-loop-k l = record {
+  long : length l.r ≡ 17;
+  passed : (q : ℕ) → q < l.k → var l.r q + over (at l.m 0 q) ≡ under (at l.m 0 q);
+  rest : (q : ℕ) → l.k ≤ q → var l.r q ≡ 0;
+}

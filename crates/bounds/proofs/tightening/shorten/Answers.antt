@@ -1,7 +1,6 @@
 -- `bounds::tightening::shorten` meets its contract. Both loops have one invariant, over the index k = a * 17 + b that is reached.
-use Prim.Native.Nat.{◌+◌, ◌*◌}
+use Prim.Native.Nat.{◌*◌}
 use native.Mathlib.Omega.{arith}
-use borrow.Author.Rules.{rules}
 use Rattle.bounds.specs.Matrix.{Entry}
 use Rattle.bounds.proofs.Signed.{back, rd}
 use Rattle.bounds.proofs.Store.{entry_fits}
@@ -9,34 +8,6 @@ use Rattle.bounds.proofs.Grid as G
 use Rattle.bounds.proofs.Grid.{Upto}
 use Rattle.bounds.proofs.tightening.shorten.Invariants.{Cell}
 use Rattle.bounds.proofs.tightening.shorten.Goals as goal
-
-pub loop-a-init : goal.loop-a-init
-loop-a-init c = (omega arith, G.start _ _ _ (search rules))
-
-pub get-y-requires : goal.get-y-requires
-get-y-requires c = omega arith
-
-pub loop-b-init : goal.loop-b-init
-loop-b-init c =
-    let l = c.loop-a in
-    (omega arith, G.same _ _ _ _ (l.a * 17) (l.a * 17 + 0) (omega arith) l.invariant.1)
-
-pub get-x-requires : goal.get-x-requires
-get-x-requires c = omega arith
-
-pub get-z-requires : goal.get-z-requires
-get-z-requires c = omega arith
-
-pub shorter-requires : goal.shorter-requires
-shorter-requires c =
-    let x-entry : Entry c.get-x.result = c.get-x.ensures.entry c.requires.entries in
-    let y-entry : Entry c.get-y.result = c.get-y.ensures.entry c.requires.entries in
-    let z-entry : Entry c.get-z.result = c.get-z.ensures.entry c.requires.entries in
-    rw (back _ (entry_fits x-entry), back _ (entry_fits y-entry), back _ (entry_fits z-entry), back _ c.ranges.c)
-    (record { entry = (x-entry, y-entry, c.requires.entry.0, z-entry); finite = c.requires.entry.1 })
-
-pub loop-b-smaller : goal.loop-b-smaller
-loop-b-smaller c = omega arith
 
 pub loop-b-preserved : goal.loop-b-preserved
 loop-b-preserved c =
@@ -50,12 +21,6 @@ loop-b-preserved c =
       G.step (Cell c.args.m c.args.i c.args.j (rd c.args.c)) c.args.m c.args.n l.r a l.b (rd c.shorter.result) (omega arith) (omega arith) (omega arith) l.invariant.1
           (rw (back c.shorter.result (record { sfits = c.shorter.type_inv })) v),
     )
-
-pub overflow_add-a : goal.overflow_add-a
-overflow_add-a c = omega arith
-
-pub loop-a-smaller : goal.loop-a-smaller
-loop-a-smaller c = omega arith
 
 pub loop-a-preserved : goal.loop-a-preserved
 loop-a-preserved c =

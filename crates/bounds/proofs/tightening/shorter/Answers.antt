@@ -22,18 +22,6 @@ module _ (y c z : ℤ) (fy : SFits w32 y) (fc : SFits w32 c) (fz : SFits w32 z) 
   three_is : over (rd (rd (rd y +ℤ rd c) +ℤ rd z)) + under y + under c + under z ≡ over y + over c + over z + under (rd (rd (rd y +ℤ rd c) +ℤ rd z))
   three_is = omega (arith, at three, sum_at two fz, sum_at fy fc)
 
-pub overflow_add-s : goal.overflow_add-s
-overflow_add-s c =
-    let r = c.ranges in
-    let e = c.requires.entry in
-    two _ _ _ r.y r.c r.z e.1 e.2 e.3 (omega (signed, at r.y)) c.requires.finite (omega (signed, at r.z))
-
-pub overflow_add-s-then-z-lt-NONE : goal.overflow_add-s-then-z-lt-NONE
-overflow_add-s-then-z-lt-NONE c =
-    let r = c.ranges in
-    let e = c.requires.entry in
-    three _ _ _ r.y r.c r.z e.1 e.2 e.3 (omega (signed, at r.y)) c.requires.finite (omega (signed, at r.z))
-
 pub returns-then-s-x : goal.returns-then-s-x
 returns-then-s-x c =
     let r = c.ranges in
@@ -63,21 +51,5 @@ returns-else-s-x c =
     rw (back c.args.x r.x) (record {
       kept = omega signed;
       short = λ p q. omega (signed, at r.x, sum, hy, hc, hz);
-      one = inl refl;
-    })
-
-pub returns-else-z-lt-NONE : goal.returns-else-z-lt-NONE
-returns-else-z-lt-NONE c =
-    rw (back c.args.x c.ranges.x) (record {
-      kept = omega signed;
-      short = λ p q. absurd (omega (signed, at c.ranges.z));
-      one = inl refl;
-    })
-
-pub returns-else-y-lt-NONE : goal.returns-else-y-lt-NONE
-returns-else-y-lt-NONE c =
-    rw (back c.args.x c.ranges.x) (record {
-      kept = omega signed;
-      short = λ p q. absurd (omega (signed, at c.ranges.y));
       one = inl refl;
     })

@@ -1,5 +1,5 @@
 -- `bounds::tightening::tighten` meets its contract.
-use mathlib.Core.Path.{◌≡◌, refl}
+use mathlib.Core.Path.{◌≡◌}
 use Prim.Native.Nat.{◌+◌}
 use native.Mathlib.Omega.{arith}
 use mir.Syntax.{w32}
@@ -9,20 +9,16 @@ use lib.IntN.{ℤ, ◌+ℤ◌}
 use Rattle.bounds.specs.Matrix.{at, Entry, Finite, Size}
 use Rattle.bounds.proofs.Signed as S
 use Rattle.bounds.proofs.Signed.{signed, rd, back, eq_read, sum_at, sum_fits}
-use Rattle.bounds.proofs.Store.{true_false, false_true}
 use Rattle.bounds.proofs.Theory.{exact, exact_same, none_meets}
 use Rattle.bounds.proofs.tightening.tighten.Goals as goal
-use Rattle.bounds.proofs.tightening.tighten.Goals.{then-back-lt-NONE+else-back-c-lt0, else-back-lt-NONE}
+use Rattle.bounds.proofs.tightening.tighten.Goals.{else-back-lt-NONE-via-then-back-lt-NONE+else-back-c-lt0, else-back-lt-NONE-via-else-back-lt-NONE}
 
 pub returns-then-old-c : goal.returns-then-old-c
 returns-then-old-c c =
     let g = c.get-old in
     let z = c.requires.size in
-    record {
-      nothing = λ e. absurd (false_true e);
-      done = λ _. exact_same c.args.m c.args.n c.args.i c.args.j c.args.c c.requires.entries.0 (omega arith) (omega arith) (omega arith) (omega arith) c.requires.entries.1
-          (omega (signed, S.at {z = g.result} (record { sfits = g.type_inv }), eq_read g.ensures.is, S.at c.ranges.c));
-    }
+    exact_same c.args.m c.args.n c.args.i c.args.j c.args.c c.requires.entries.0 (omega arith) (omega arith) (omega arith) (omega arith) c.requires.entries.1
+    (omega (signed, S.at {z = g.result} (record { sfits = g.type_inv }), eq_read g.ensures.is, S.at c.ranges.c))
 
 -- a bound and c, added as the machine adds them: the sum fits, and it is their sum
 module _ (b c : ℤ) (f : SFits w32 b) (g : SFits w32 c) (e : Entry b) (s : Size c 300000000) (h : Finite b) where
@@ -32,12 +28,6 @@ module _ (b c : ℤ) (f : SFits w32 b) (g : SFits w32 c) (e : Entry b) (s : Size
   sum_is : over (rd (rd b +ℤ rd c)) + under b + under c ≡ over b + over c + under (rd (rd b +ℤ rd c))
   sum_is = omega (arith, S.at sum, sum_at f g)
 
-pub overflow_add-back : goal.overflow_add-back
-overflow_add-back c =
-    let g = c.get-back in
-    let f : SFits w32 g.result = record { sfits = g.type_inv } in
-    sum _ _ f c.ranges.c (g.ensures.entry c.requires.entries.0) c.requires.size (omega (signed, S.at f))
-
 pub returns-then-back-c-lt0 : goal.returns-then-back-c-lt0
 returns-then-back-c-lt0 c =
     let g = c.get-back in
@@ -45,18 +35,7 @@ returns-then-back-c-lt0 c =
     let q = eq_read g.ensures.is in
     let h : Finite g.result = omega (signed, S.at f) in
     let t = sum_is _ _ f c.ranges.c (g.ensures.entry c.requires.entries.0) c.requires.size h in
-    record {
-      nothing = λ _. (
-        none_meets (at c.args.m) c.args.n c.args.i c.args.j c.args.c (omega arith) (omega arith) (omega (arith, h, q)) (omega (signed, t, q)),
-        refl,
-      );
-      done = λ e. absurd (true_false e);
-    }
-
-pub shorten-r-requires : goal.shorten-r-requires
-shorten-r-requires c =
-    let z = c.requires.size in
-    rw (back _ c.ranges.c) (record { n_bound = c.requires.n_bound; entry = (omega arith, omega arith); entries = c.requires.entries.0 })
+    none_meets (at c.args.m) c.args.n c.args.i c.args.j c.args.c (omega arith) (omega arith) (omega (arith, h, q)) (omega (signed, t, q))
 
 pub returns : goal.returns
 returns c =
@@ -64,16 +43,13 @@ returns c =
     let f : SFits w32 g.result = record { sfits = g.type_inv } in
     let q = eq_read g.ensures.is in
     let E = c.requires.entries in
-    let u = rw (back _ c.ranges.c) at c.shorten-r.ensures in
+    let u = rw (back _ c.ranges.c) at c.shorten.ensures in
     let t = sum_is _ _ f c.ranges.c (g.ensures.entry E.0) c.requires.size in
-    record {
-      nothing = λ e. absurd (false_true e);
-      done = λ _. exact c.args.m c.args.n c.args.i c.args.j c.args.c c.shorten-r.result u E.0 (omega arith) (omega arith) (omega arith) (omega arith) E.1
-          (λ h.
-          let p : Finite g.result = omega (arith, q) in
-          let v = t p in
-          elim c.if-back-lt-NONE.branch [
-            | then-back-lt-NONE+else-back-c-lt0 w ↦ omega (signed, q, v)
-            | else-back-lt-NONE w ↦ absurd (omega (signed, S.at f))
-          ]);
-    }
+    exact c.args.m c.args.n c.args.i c.args.j c.args.c c.shorten.result u E.0 (omega arith) (omega arith) (omega arith) (omega arith) E.1
+    (λ h.
+    let p : Finite g.result = omega (arith, q) in
+    let v = t p in
+    elim c.else-back-lt-NONE.branch [
+      | else-back-lt-NONE-via-then-back-lt-NONE+else-back-c-lt0 w ↦ omega (signed, q, v, w.if-back-c-lt0.false)
+      | else-back-lt-NONE-via-else-back-lt-NONE w ↦ absurd (omega (signed, S.at f, w.if-back-lt-NONE.false))
+    ])

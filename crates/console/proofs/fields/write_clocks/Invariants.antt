@@ -1,13 +1,9 @@
--- What the loops of `write_clocks` keep, and how they end.
-use Prim.Native.Nat.{◌-◌, ◌≤◌}
-use mathlib.Core.Path.{◌≡◌}
-use lib.ListN.{length, take}
+-- What the loop of `write_clocks` keeps.
+use Prim.Native.Nat.{◌+◌, ◌*◌, ◌≤◌}
+use lib.ListN.{take}
 use Rattle.lines.specs.Put.{Put}
 use Rattle.console.specs.Line.{spaced}
 use Rattle.console.proofs.fields.write_clocks.Given as goal
 
-abbrev pub invariant-loop-k : goal.invariant-loop-k
-invariant-loop-k l = (l.k ≤ l.m) × (length l.buf ≡ length l.initial.buf) × Put l.initial.buf l.at (spaced (take l.k l.clocks)) l.buf l.p
-
-abbrev pub decreases-loop-k : goal.decreases-loop-k
-decreases-loop-k l = l.m - l.k
+abbrev pub invariant-loop-clock : goal.invariant-loop-clock
+invariant-loop-clock l = record { put : Put l.initial.buf l.at (spaced (take l.clock-index l.clock-items)) l.buf l.p; near : l.p ≤ l.at + 21 * l.clock-index }

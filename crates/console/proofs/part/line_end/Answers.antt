@@ -1,28 +1,22 @@
 -- `line_end` meets its contract.
 use native.Mathlib.Omega.{arith}
-use Rattle.console.proofs.PartLaws.{feed_here, feed_later, feed_none}
+use mathlib.Core.Path.{◌≡◌, sym}
+use Prim.Native.Nat.{◌-◌}
+use lib.ListN.{length, take, drop, length-drop}
+use lib.Seq.{take_all}
+use Rattle.console.proofs.PartLaws.{feed_found, feed_none}
 use Rattle.console.proofs.part.line_end.Goals as goal
 
-pub loop-k-init : goal.loop-k-init
-loop-k-init c = omega arith
-
-pub returns-then-text-k-eq10 : goal.returns-then-text-k-eq10
-returns-then-text-k-eq10 c =
+pub returns-in-Some : goal.returns-in-Some
+returns-in-Some c =
     let s = c.args.text.now in
-    let l = c.loop-k in
-    let e = feed_here s l.k (omega arith) c.if-text-k-eq10.true in
-    omega (arith, l.invariant)
+    let rest = drop c.args.at s in
+    let whole : take (length s - c.args.at) rest ≡ rest = take_all _ rest (omega (arith, length-drop c.args.at s)) in
+    omega (arith, feed_found rest c.in-Some.k (rw whole at (sym c.in-Some.ensures)))
 
-pub loop-k-preserved : goal.loop-k-preserved
-loop-k-preserved c =
+pub returns-in-None : goal.returns-in-None
+returns-in-None c =
     let s = c.args.text.now in
-    let l = c.loop-k in
-    let e = feed_later s l.k (omega arith) c.if-text-k-eq10.false in
-    omega (arith, l.invariant)
-
-pub returns : goal.returns
-returns c =
-    let s = c.args.text.now in
-    let l = c.loop-k in
-    let e = feed_none s l.k (omega arith) in
-    omega (arith, l.invariant)
+    let rest = drop c.args.at s in
+    let whole : take (length s - c.args.at) rest ≡ rest = take_all _ rest (omega (arith, length-drop c.args.at s)) in
+    omega (arith, feed_none rest (rw whole at (sym c.in-None.ensures)), length-drop c.args.at s)

@@ -1,30 +1,14 @@
 -- `write_state` meets its contract.
-use native.Mathlib.Omega.{arith}
 use mathlib.Core.List.{[], ◌∷◌, ◌++◌}
 use lib.ListN.{take}
 use Rattle.console.specs.Line.{job_numbers}
-use Rattle.console.proofs.LineLaws.{field_end, put_fields}
+use Rattle.console.proofs.LineLaws.{put_fields}
 use Rattle.console.proofs.room.write_state.Goals as goal
 
-pub write_clocks-q-requires : goal.write_clocks-q-requires
-write_clocks-q-requires c =
-    let f1 = c.write_field-p in
-    omega (arith, field_end _ _ _ _ _ f1.ensures, f1.auto.buf)
-
-pub write_jobs-requires : goal.write_jobs-requires
-write_jobs-requires c =
-    let f1 = c.write_field-p in
-    let w = c.write_clocks-q in
-    omega (arith, field_end _ _ _ _ _ f1.ensures, f1.auto.buf, w.ensures.1, w.auto.buf)
-
-pub returns : goal.returns
-returns c =
-    let f1 = c.write_field-p in
-    let w = c.write_clocks-q in
-    let v = c.write_jobs in
-    let a = c.args in
-    let s = a.state in (
-      put_fields _ _ (s.location ∷ []) (take a.n s.clocks ++ job_numbers (take s.count s.jobs)) _ _ _ _ f1.ensures
-          (put_fields _ _ (take a.n s.clocks) (job_numbers (take s.count s.jobs)) _ _ _ _ w.ensures.0 v.ensures.0),
-      omega (arith, field_end _ _ _ _ _ f1.ensures, w.ensures.1, v.ensures.1),
-    )
+pub returns-clause-written : goal.returns-clause-written
+returns-clause-written c =
+    let s = c.args.state in
+    let clocks = take c.args.n s.clocks in
+    let jobs = job_numbers (take s.count s.jobs) in
+    put_fields _ _ (s.location ∷ []) (clocks ++ jobs) _ _ _ _ c.write_fields-p.ensures.written
+    (put_fields _ _ clocks jobs _ _ _ _ c.write_clocks-q.ensures.written c.write_jobs.ensures.written)

@@ -9,16 +9,16 @@ pub check_proposal-requires : goal.check_proposal-requires
 check_proposal-requires c =
     let a = c.args in
     let w = c.read_model in
-    model_given a.model.now (replicate 1092 0) w.new.table w.result (length-replicate {A = ℕ} 1092 0) w.ensures c.in-Done.is
+    model_given a.model.now (replicate 1092 0) w.new.table w.result (length-replicate {A = ℕ} 1092 0) w.ensures c.in-Ok.is
 
-pub returns-in-Refused : goal.returns-in-Refused
-returns-in-Refused c =
+pub returns-in-Err : goal.returns-in-Err
+returns-in-Err c =
     let a = c.args in
     let w = c.read_model in
-    tells_no_model a.model.now a.proposal.now (replicate 1092 0) w.new.table w.result (length-replicate {A = ℕ} 1092 0) w.ensures _ _ _ c.in-Refused.is c.refused.ensures
+    tells_no_model a.model.now a.proposal.now (replicate 1092 0) w.new.table w.result (length-replicate {A = ℕ} 1092 0) w.ensures _ _ c.in-Err.is c.refused.ensures
 
-pub returns-in-Done : goal.returns-in-Done
-returns-in-Done c =
+pub returns-in-Ok : goal.returns-in-Ok
+returns-in-Ok c =
     let a = c.args in
     let w = c.read_model in
-    tells_model a.model.now a.proposal.now (replicate 1092 0) w.new.table w.result (length-replicate {A = ℕ} 1092 0) w.ensures _ c.in-Done.is c.check_proposal.ensures
+    tells_model a.model.now a.proposal.now (replicate 1092 0) w.new.table w.result (length-replicate {A = ℕ} 1092 0) w.ensures _ c.in-Ok.is c.check_proposal.ensures

@@ -1,14 +1,9 @@
--- What the loops of `fits` keep, and how they end.
+-- What the loop of `fits` keeps: none of the tasks that it has passed decides.
 use mathlib.Core.Path.{◌≡◌}
-use Prim.Native.Nat.{◌-◌}
-use lib.ListN.{length, take}
-use Rattle.meaning.specs.Text.ModelTable.{decode}
+use lib.ListN.{drop}
+use Rattle.model_table.specs.Held.{model_of}
 use Rattle.meaning.specs.Zones.Proper.{fits}
-use Rattle.home.proofs.Walks.{Walk}
 use Rattle.home.proofs.queue.fits.Given as goal
 
 abbrev pub invariant-loop-k : goal.invariant-loop-k
-invariant-loop-k l = (length l.tasks ≡ 6) × Walk (fits (decode l.model)) (take l.count l.tasks) 0 l.k
-
-abbrev pub decreases-loop-k : goal.decreases-loop-k
-decreases-loop-k l = l.count - l.k
+invariant-loop-k l = fits (model_of l.model) (drop l.k l.tasks) ≡ fits (model_of l.model) l.tasks

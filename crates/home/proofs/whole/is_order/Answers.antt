@@ -1,32 +1,34 @@
 -- `home::whole::is_order` meets its contract.
-use mathlib.Core.Path.{sym, ◌∙◌, ap}
-use Prim.Native.Nat.{ℕ}
-use mathlib.Core.Bool.{true≢false}
-use lib.ListN.{take}
-use Rattle.meaning.specs.Text.ModelTable.{decode}
-use Rattle.model_table.proofs.PartLaws.{tasks_is}
-use Rattle.home.specs.ByCell.{all_of}
-use Rattle.home.proofs.Walks.{is_not}
-use Rattle.home.proofs.WholeLaws.{cells_tasks, cells_unused, cells_make}
+use mathlib.Core.Path.{◌≡◌, refl, sym, ◌∙◌, ap}
+use mathlib.Core.Bool.{true, false, ◌&&◌}
+use lib.ListN.{length, take}
+use Rattle.model_table.specs.Held.{model_of}
+use Rattle.meaning.specs.Zones.Proper.{fits}
+use Rattle.home.specs.ByCell.{all_of, all_zero}
+use Rattle.home.proofs.WholeLaws.{cells_told}
 use Rattle.home.proofs.whole.is_order.Goals as goal
+use Rattle.home.proofs.whole.is_order.Goals.{then-are_known, else-are_known}
 
 pub returns-then-fits : goal.returns-then-fits
 returns-then-fits c =
-    let a = c.args in
-    let m = decode a.model.now in
-    let n = c.tasks.ensures ∙ tasks_is a.model.now c.requires.0 in
-    let t = ap (λ (k : ℕ). all_of k (take a.count a.tasks)) (sym n) ∙ sym c.all_of.ensures ∙ c.if-all_of.true in
-    let f = sym c.fits.ensures ∙ c.if-fits.true in (
-      λ q. cells_make m a.tasks a.count t f (sym c.unused.ensures ∙ q),
-      λ r. c.unused.ensures ∙ cells_unused m a.tasks a.count r,
-    )
+    let m = model_of c.args.model.now in
+    let o = take c.args.home.count c.args.home.tasks in
+    let k : c.are_known.result ≡ all_of (length m.tasks) o = c.are_known.ensures ∙ ap (all_of (length m.tasks)) c.split_at.ensures.front in
+    let both : c.if-are_known.value ≡ (all_of (length m.tasks) o && fits m o) =
+    elim c.if-are_known.branch [
+      | then-are_known w ↦ rw (← k, w.if-are_known.true) (w.value-is ∙ w.fits.ensures ∙ ap (fits m) c.split_at.ensures.front)
+      | else-are_known w ↦ rw (← k, w.if-are_known.false) (w.value-is ∙ w.if-are_known.false)
+    ] in
+    cells_told m c.args.home.tasks c.args.home.count {both = true} (sym c.if-fits.true ∙ both) (c.unused.ensures ∙ ap all_zero c.split_at.ensures.back)
 
 pub returns-else-fits : goal.returns-else-fits
-returns-else-fits c = is_not (λ r. true≢false (sym (c.fits.ensures ∙ r.fit) ∙ c.if-fits.false))
-
-pub returns-else-all_of : goal.returns-else-all_of
-returns-else-all_of c =
-    let a = c.args in
-    let n = c.tasks.ensures ∙ tasks_is a.model.now c.requires.0 in
-    let t = c.all_of.ensures ∙ ap (λ (k : ℕ). all_of k (take a.count a.tasks)) n in
-    is_not (λ r. true≢false (sym (t ∙ cells_tasks (decode a.model.now) a.tasks a.count r) ∙ c.if-all_of.false))
+returns-else-fits c =
+    let m = model_of c.args.model.now in
+    let o = take c.args.home.count c.args.home.tasks in
+    let k : c.are_known.result ≡ all_of (length m.tasks) o = c.are_known.ensures ∙ ap (all_of (length m.tasks)) c.split_at.ensures.front in
+    let both : c.if-are_known.value ≡ (all_of (length m.tasks) o && fits m o) =
+    elim c.if-are_known.branch [
+      | then-are_known w ↦ rw (← k, w.if-are_known.true) (w.value-is ∙ w.fits.ensures ∙ ap (fits m) c.split_at.ensures.front)
+      | else-are_known w ↦ rw (← k, w.if-are_known.false) (w.value-is ∙ w.if-are_known.false)
+    ] in
+    rw c.if-fits.false (cells_told m c.args.home.tasks c.args.home.count {both = false} (sym c.if-fits.false ∙ both) refl)

@@ -1,12 +1,9 @@
--- What the loops of `read_digits` keep, and how they end.
-use Prim.Native.Nat.{◌≤◌, ◌-◌}
+-- What the loop of `read_digits` keeps.
+use Prim.Native.Nat.{◌≤◌}
 use mathlib.Core.Path.{◌≡◌}
-use lib.ListN.{length, drop}
+use lib.ListN.{drop}
 use Rattle.meaning.specs.Text.Numerals.{too_large, digits}
 use Rattle.lines.proofs.numerals.read_digits.Given as goal
 
-abbrev pub invariant-loop-i : goal.invariant-loop-i
-invariant-loop-i l = (l.v ≤ too_large) × (digits (drop l.i l.s) l.i l.v ≡ digits (drop l.at l.s) l.at 0)
-
-abbrev pub decreases-loop-i : goal.decreases-loop-i
-decreases-loop-i l = length l.s - l.i
+abbrev pub invariant-loop-next : goal.invariant-loop-next
+invariant-loop-next l = (l.size ≤ too_large) × (digits (drop l.next l.s) l.next l.size ≡ digits (drop l.at l.s) l.at 0)

@@ -1,27 +1,20 @@
 -- `guard_holds` meets its contract.
-use mathlib.Core.Bool.{Bool}
 use Prim.Native.Nat.{ℕ, ◌/◌, ◌%◌}
-use mathlib.Core.Path.{sym, ◌∙◌}
+use mathlib.Core.Bool.{Bool}
+use mathlib.Core.Path.{◌∙◌, refl}
+use Rattle.std.proofs.Common.{rules}
+use Rattle.std.proofs.lemmas.Iterator.{YieldsList-from_range}
+use Rattle.std.proofs.lemmas.Iterator.Search.{all_from_yields_List}
+use borrow.Author.Tests.{tests}
 use Rattle.meaning.specs.Lists.{nth1D}
 use Rattle.model_table.specs.Parts.{bound_in}
 use Rattle.machine.specs.ByCell.{bound_met}
-use Rattle.machine.proofs.AllCells.{passed_start, passed_more, passed_stop, passed_end, every_collect}
-use native.Mathlib.Omega.{arith}
+use Rattle.machine.proofs.AllCells.{every_collect}
 use Rattle.machine.proofs.clocks.guard_holds.Goals as goal
 
-pub loop-x-init : goal.loop-x-init
-loop-x-init c = passed_start 25 _
-
-pub loop-x-preserved : goal.loop-x-preserved
-loop-x-preserved c = let l = c.loop-x in
-    passed_more 25 _ l.x c.row_met.result l.invariant (omega arith) c.row_met.ensures c.if-row_met.true
-
-pub returns-else-row_met : goal.returns-else-row_met
-returns-else-row_met c = let a = c.args in
-    let l = c.loop-x in
-    let h : ℕ → Bool = λ (y : ℕ). bound_met (bound_in a.model.now a.edge (y / 5) (y % 5)) (nth1D a.clocks (y / 5) 0) (nth1D a.clocks (y % 5) 0) in
-    sym (sym (every_collect _ 25 _ _) ∙ passed_stop 25 h l.x c.row_met.result (omega arith) c.row_met.ensures c.if-row_met.false)
-
 pub returns : goal.returns
-returns c = let l = c.loop-x in
-    sym (sym (every_collect _ 25 _ _) ∙ passed_end 25 _ l.x l.invariant (omega arith))
+returns c =
+    let a = c.args in
+    let h : ℕ → Bool = λ (y : ℕ). bound_met (bound_in a.model.now.cells.now a.edge (y / 5) (y % 5)) (nth1D a.clocks (y / 5) 0) (nth1D a.clocks (y % 5) 0) in
+    all_from_yields_List h _ _ _ c.all.ensures.ran (YieldsList-from_range 0 25 25 refl refl) (λ x b q k. search (rules, tests))
+    ∙ every_collect _ 25 _ _

@@ -1,20 +1,14 @@
--- `machine::queue::tasks_of` meets its contract.
-use mathlib.Core.Path.{refl}
-use Rattle.machine.proofs.Arrays.{filled_start, filled_more}
-use Rattle.machine.proofs.QueueLaws.{tasks_filled}
+-- `tasks_of` meets its contract.
+use mathlib.Core.Path.{◌≡◌}
+use lib.ListN.{length}
+use Rattle.machine.specs.Stands.{no_job, task_of}
+use Rattle.machine.proofs.Arrays.{mapped_each}
 use borrow.Author.Rules.{rules}
-use native.Mathlib.Omega.{arith}
 use Rattle.machine.proofs.queue.tasks_of.Goals as goal
-
-pub loop-k-init : goal.loop-k-init
-loop-k-init c = (search rules, filled_start 0 6 _ _ refl)
-
-pub loop-k-preserved : goal.loop-k-preserved
-loop-k-preserved c =
-    let l = c.loop-k in
-    (l.invariant.0, filled_more 0 6 _ l.r l.k _ l.invariant.1 (omega arith) refl)
 
 pub returns : goal.returns
 returns c =
-    let l = c.loop-k in
-    tasks_filled c.args.jobs l.r l.k l.invariant.0 l.invariant.1 (omega arith)
+    let js = c.args.jobs in
+    let h = c.map.ensures.items in
+    let e : length js ≡ 6 = search rules in
+    mapped_each task_of no_job 0 6 js c.map.result e h.long (λ i b. let w = h.at i no_job 0 b in search rules)

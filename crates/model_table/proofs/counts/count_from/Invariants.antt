@@ -1,11 +1,8 @@
--- What the loops of `count_from` keep, and how they end.
-use Prim.Native.Nat.{◌+◌, ◌-◌, ◌*◌, ◌≤◌}
+-- What the loop of `count_from` keeps: the cells that it has passed are counted.
+use Prim.Native.Nat.{◌≤◌}
 use mathlib.Core.Path.{◌≡◌}
 use Rattle.meaning.specs.Text.ModelTable.{count}
 use Rattle.model_table.proofs.counts.count_from.Given as goal
 
 abbrev pub invariant-loop-k : goal.invariant-loop-k
-invariant-loop-k l = (l.k ≤ l.n) × (l.c ≤ l.k) × (l.p ≡ l.from + l.step * l.k) × (l.p ≤ 100 + 31 * l.k) × (l.c ≡ count l.model l.from l.step l.k)
-
-abbrev pub decreases-loop-k : goal.decreases-loop-k
-decreases-loop-k l = l.n - l.k
+invariant-loop-k l = (l.found ≤ l.k) × (l.found ≡ count l.table l.from l.step l.k)

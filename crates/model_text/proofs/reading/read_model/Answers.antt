@@ -1,48 +1,38 @@
 -- `read_model` meets its contract.
 use Prim.Native.Nat.{ℕ}
+use borrow.Author.Rules.{rules}
 use mathlib.Core.Path.{◌≡◌, sym, ap, ◌∙◌}
 use lib.ListN.{length, replicate}
-use Rattle.meaning.specs.Text.Ranges.{text_most}
 use Rattle.meaning.specs.Text.ModelTable.{size}
-use Rattle.model_text.proofs.Laws.Answering.{answered_refused, answered_as, read_room, read_long, read_stop, read_rest}
+use Rattle.model_text.proofs.Laws.Answering.{answered_err, answered_failed, read_room, read_long, read_stop, read_rest}
 use Rattle.model_text.proofs.reading.read_model.Goals as goal
 
 pub returns-then-table-ne-SIZE : goal.returns-then-table-ne-SIZE
 returns-then-table-ne-SIZE c =
-    let a = c.args in
-    let w = c.clear in
-    let k = w.auto.t in
-    answered_refused _ _ _ 11 0 (read_room _ a.text.now (λ e. c.if-table-ne-SIZE.true (k ∙ e))) w.ensures
+    let z : c.fill.new.self ≡ replicate (length c.args.table.now) 0 = search rules in
+    answered_err _ _ _ _ (read_room _ c.args.text.now (λ e. c.if-table-ne-SIZE.true (c.fill.ensures.len ∙ e))) z
 
 pub returns-then-text-gt-TEXT_MOST : goal.returns-then-text-gt-TEXT_MOST
 returns-then-text-gt-TEXT_MOST c =
-    let a = c.args in
-    let w = c.clear in
-    let k = w.auto.t in
-    let n : length a.table.now ≡ size = sym k ∙ c.if-table-ne-SIZE.false in
-    answered_refused _ _ _ 1 text_most (read_long _ a.text.now n c.if-text-gt-TEXT_MOST.true) w.ensures
+    let z : c.fill.new.self ≡ replicate (length c.args.table.now) 0 = search rules in
+    let n : length c.args.table.now ≡ size = sym c.fill.ensures.len ∙ c.if-table-ne-SIZE.false in
+    answered_err _ _ _ _ (read_long _ c.args.text.now n c.if-text-gt-TEXT_MOST.true) z
 
-pub returns-then-p-text : goal.returns-then-p-text
-returns-then-p-text c =
-    let a = c.args in
-    let w = c.clear in
-    let k = w.auto.t in
-    let n : length a.table.now ≡ size = sym k ∙ c.if-table-ne-SIZE.false in
-    answered_refused _ _ _ 2 _ (read_stop _ a.text.now _ n c.if-text-gt-TEXT_MOST.false c.first_stop-p.ensures c.if-p-text.true) w.ensures
+pub returns-then-stop-text : goal.returns-then-stop-text
+returns-then-stop-text c =
+    let z : c.fill.new.self ≡ replicate (length c.args.table.now) 0 = search rules in
+    let n : length c.args.table.now ≡ size = sym c.fill.ensures.len ∙ c.if-table-ne-SIZE.false in
+    answered_err _ _ _ _ (read_stop _ c.args.text.now _ n c.if-text-gt-TEXT_MOST.false c.first_stop-stop.ensures c.if-stop-text.true) z
 
-pub read_records-requires : goal.read_records-requires
-read_records-requires c =
-    let a = c.args in
-    let w = c.clear in
-    let k = w.auto.t in
-    let n : length a.table.now ≡ size = sym k ∙ c.if-table-ne-SIZE.false in
-    (k ∙ n, w.ensures ∙ ap (λ (x : ℕ). replicate x 0) (sym k), c.if-text-gt-TEXT_MOST.false)
+pub read_records-answer-requires : goal.read_records-answer-requires
+read_records-answer-requires c =
+    let z : c.fill.new.self ≡ replicate (length c.args.table.now) 0 = search rules in
+    let n : length c.args.table.now ≡ size = sym c.fill.ensures.len ∙ c.if-table-ne-SIZE.false in
+    (c.if-table-ne-SIZE.false, z ∙ ap (λ (x : ℕ). replicate x 0) n)
 
-pub returns : goal.returns
-returns c =
-    let a = c.args in
-    let w = c.clear in
-    let k = w.auto.t in
-    let n : length a.table.now ≡ size = sym k ∙ c.if-table-ne-SIZE.false in
-    let e = read_rest _ a.text.now _ n c.if-text-gt-TEXT_MOST.false c.first_stop-p.ensures c.if-p-text.false in
-    answered_as _ _ _ _ _ _ n e c.read_records.ensures
+pub returns-then-is_err : goal.returns-then-is_err
+returns-then-is_err c =
+    let n : length c.args.table.now ≡ size = sym c.fill.ensures.len ∙ c.if-table-ne-SIZE.false in
+    let e = read_rest _ c.args.text.now _ n c.if-text-gt-TEXT_MOST.false c.first_stop-stop.ensures c.if-stop-text.false in
+    let z : c.fill-then-is_err.new.self ≡ replicate (length c.args.table.now) 0 = search rules in
+    answered_failed _ _ _ _ _ (c.read_records-answer.ensures ∙ sym e) (sym c.is_err.ensures.value ∙ c.if-is_err.true) z

@@ -1,13 +1,14 @@
--- What the loops of `jobs_of` keep, and how they end.
-use Prim.Native.Nat.{ℕ, ◌-◌}
-use lib.ListN.{get_or}
+-- What the loop of `jobs_of` keeps.
+use mathlib.Core.Path.{◌≡◌}
+use Prim.Native.Nat.{ℕ, ◌≤◌, ◌<◌}
+use lib.ListN.{length, get_or}
 use Rattle.machine.specs.Stands.{no_job}
 use Rattle.shown.specs.Moving.{cell_at}
-use Rattle.shown.proofs.StateLaws.{Begun}
 use Rattle.shown.proofs.state.jobs_of.Given as goal
 
 abbrev pub invariant-loop-k : goal.invariant-loop-k
-invariant-loop-k l = Begun no_job 6 l.count (λ (i : ℕ). cell_at l.v l.n (get_or l.tasks i 0) i) l.r l.k
-
-abbrev pub decreases-loop-k : goal.decreases-loop-k
-decreases-loop-k l = l.count - l.k
+invariant-loop-k l = record {
+  long : length l.r ≡ 6;
+  cells : (i : ℕ) → i < l.k → get_or l.r i no_job ≡ cell_at l.v l.n (get_or l.order i 0) i;
+  rest : (i : ℕ) → l.k ≤ i → get_or l.r i no_job ≡ no_job;
+}

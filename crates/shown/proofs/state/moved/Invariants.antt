@@ -1,6 +1,6 @@
--- What the loops of `moved` keep, and how they end.
+-- What the loop of `moved` keeps.
 use mathlib.Core.Path.{◌≡◌}
-use Prim.Native.Nat.{ℕ, ◌+◌, ◌-◌, ◌≤◌, ◌<◌}
+use Prim.Native.Nat.{ℕ, ◌+◌, ◌<◌}
 use lib.ListN.{length}
 use Rattle.meaning.specs.Numbers.{over, under}
 use Rattle.bounds.specs.Matrix.{ent}
@@ -8,8 +8,7 @@ use Rattle.bounds.specs.Images.{var}
 use Rattle.shown.proofs.state.moved.Given as goal
 
 abbrev pub invariant-loop-i : goal.invariant-loop-i
-invariant-loop-i l =
-    (l.i ≤ l.n) × (length l.r ≡ 17) × ((q : ℕ) → q < l.i → var l.r q + under (ent l.off q) ≡ var l.x (var l.from q) + over (ent l.off q))
-
-abbrev pub decreases-loop-i : goal.decreases-loop-i
-decreases-loop-i l = l.n - l.i
+invariant-loop-i l = record {
+  long : length l.r ≡ 17;
+  moved : (q : ℕ) → q < l.i → var l.r q + under (ent l.off q) ≡ var l.x (var l.from q) + over (ent l.off q);
+}

@@ -1,64 +1,41 @@
 -- `shown::state::shown_state` meets its contract.
 use mathlib.Core.Path.{◌≡◌, ◌∙◌}
-use Prim.Native.Nat.{◌≤◌}
 use native.Mathlib.Omega.{arith}
 use borrow.Author.Rules.{rules}
-use lib.ListN.{length}
+use lib.ListN.{length-take}
 use Rattle.meaning.specs.Text.ModelTable.{decode}
-use Rattle.meaning.specs.Text.RightModel.{RightModel}
 use Rattle.meaning.specs.Inner.StepBounds.{RangedModel}
 use Rattle.model_table.proofs.PartLaws.{clocks_is}
-use Rattle.zone_bounds.proofs.LoopLaws.{clocks_small}
 use Rattle.step_bounds.proofs.RangeLaws.{right_ranged}
 use Rattle.shown.proofs.StateLaws.{movable, rising, state_is}
 use Rattle.shown.proofs.state.shown_state.Goals as goal
+use Rattle.shown.proofs.state.shown_state.Goals.{After-clocks-n}
 
-pub clocks-n-requires : goal.clocks-n-requires
-clocks-n-requires c = tt
+ranged : (c : After-clocks-n) → RangedModel (decode c.args.model.now.cells.now)
+ranged c = right_ranged (decode c.args.model.now.cells.now) c.args.model.now.right.right
+
+many : (c : After-clocks-n) → c.clocks-n.result ≡ (decode c.args.model.now.cells.now).clocks
+many c = c.clocks-n.ensures ∙ clocks_is c.args.model.now.cells.now c.args.model.now.right
 
 pub moved-v-requires : goal.moved-v-requires
 moved-v-requires c =
-    let right : RightModel (decode c.args.model.now) =
-    (c.requires.right_table.right) in
-    let ranged : RangedModel (decode c.args.model.now) =
-    (right_ranged (decode c.args.model.now) right) in
-    let w = c.requires.shown_by in
-    movable (decode c.args.model.now) w.zone w.step (ranged) w.ranged c.args.plan w.planned c.args.x w.source (right) w.few w.low
+    let w = c.requires in
+    movable (decode c.args.model.now.cells.now) w.zone w.step (ranged (goal.at.moved-v-requires c).After-clocks-n) w.ranged c.args.plan w.planned c.args.x w.source c.args.model.now.right.right w.few w.low
 
-pub clocks_of-values-requires : goal.clocks_of-values-requires
-clocks_of-values-requires c =
-    let few : c.clocks-n.result ≤ 4 =
-    (omega (arith, c.clocks-n.ensures, clocks_small c.args.model.now c.requires.right_table)) in
-    few
+pub jobs_of-jobs-requires-clause-n_bound : goal.jobs_of-jobs-requires-clause-n_bound
+jobs_of-jobs-requires-clause-n_bound c = (
+  omega (arith, many (goal.at.jobs_of-jobs-requires-clause-n_bound c).After-clocks-n, c.args.model.now.right.right.clocks),
+  rw c.order.ensures (omega (arith, length-take c.args.plan.home.count c.args.plan.home.tasks, c.requires.planned.few)),
+)
 
-pub jobs_of-jobs-requires : goal.jobs_of-jobs-requires
-jobs_of-jobs-requires c =
-    let right : RightModel (decode c.args.model.now) =
-    (c.requires.right_table.right) in
-    let ranged : RangedModel (decode c.args.model.now) =
-    (right_ranged (decode c.args.model.now) right) in
-    let few : c.clocks-n.result ≤ 4 =
-    (omega (arith, c.clocks-n.ensures, clocks_small c.args.model.now c.requires.right_table)) in
-    let many : c.clocks-n.result ≡ (decode c.args.model.now).clocks =
-    (c.clocks-n.ensures ∙ clocks_is c.args.model.now c.requires.right_table) in
-    let six : length c.args.plan.home.tasks ≡ 6 =
-    (search rules) in
-    let w = c.requires.shown_by in record {
-      n_bound = (few, w.planned.few);
-      rising = rising (decode c.args.model.now) w.zone w.step (ranged) w.ranged c.args.plan w.planned c.args.x w.source
-          c.moved-v.result c.moved-v.ensures c.clocks-n.result (many) (six);
-    }
+pub jobs_of-jobs-requires-clause-rising : goal.jobs_of-jobs-requires-clause-rising
+jobs_of-jobs-requires-clause-rising c =
+    let n = (goal.at.jobs_of-jobs-requires-clause-rising c).After-clocks-n in
+    let w = c.requires in
+    rising (decode c.args.model.now.cells.now) w.zone w.step (ranged n) w.ranged c.args.plan w.planned c.args.x w.source c.moved-v.result c.moved-v.ensures c.clocks-n.result c.order.result.now (many n) c.order.ensures
 
 pub returns : goal.returns
-returns c =
-    let right : RightModel (decode c.args.model.now) =
-    (c.requires.right_table.right) in
-    let ranged : RangedModel (decode c.args.model.now) =
-    (right_ranged (decode c.args.model.now) right) in
-    let many : c.clocks-n.result ≡ (decode c.args.model.now).clocks =
-    (c.clocks-n.ensures ∙ clocks_is c.args.model.now c.requires.right_table) in
-    let six : length c.args.plan.home.tasks ≡ 6 =
-    (search rules) in
-    (λ z st rz q b.
-    state_is (decode c.args.model.now) z st (ranged) rz c.args.plan q c.args.x b c.moved-v.result c.moved-v.ensures
-    c.clocks-n.result c.clocks_of-values.result c.jobs_of-jobs.result (many) (six) c.clocks_of-values.ensures c.jobs_of-jobs.ensures)
+returns c z st rz q b =
+    let n = (goal.at.returns c).After-clocks-n in
+    state_is (decode c.args.model.now.cells.now) z st (ranged n) rz c.args.plan q c.args.x b c.moved-v.result c.moved-v.ensures
+    c.clocks-n.result c.clocks_of-values.result c.jobs_of-jobs.result c.order.result.now (many n) c.order.ensures (search rules) c.clocks_of-values.ensures c.jobs_of-jobs.ensures

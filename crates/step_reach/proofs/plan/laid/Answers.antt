@@ -2,7 +2,6 @@
 use mathlib.Core.Path.{◌≡◌, ◌∙◌}
 use Prim.Native.Nat.{◌≤◌}
 use native.Mathlib.Omega.{arith}
-use lib.ListN.{length}
 use Rattle.meaning.specs.Text.ModelTable.{decode}
 use Rattle.model_table.proofs.PartLaws.{clocks_is}
 use Rattle.bounds.proofs.Signed.{back}
@@ -11,32 +10,29 @@ use Rattle.step_reach.proofs.PlanLaws.{planned}
 use borrow.Author.Rules.{rules}
 use Rattle.step_reach.proofs.plan.laid.Goals as goal
 
-six : (c : goal.After-all_added-off) → length c.args.slots.tasks ≡ 6
-six c = search rules
-
 pub all_from-from-requires : goal.all_from-from-requires
 all_from-from-requires c =
-    let clocks : c.clocks-clocks.result ≡ (decode c.args.model.now).clocks =
-    (c.clocks-clocks.ensures ∙ clocks_is c.args.model.now c.requires.right_table) in
+    let clocks : c.clocks-clocks.result ≡ (decode c.args.model.now.cells.now).clocks =
+    (c.clocks-clocks.ensures ∙ clocks_is c.args.model.now.cells.now c.args.model.now.right) in
     let few : c.clocks-clocks.result ≤ 4 =
-    (omega (arith, clocks, c.requires.right_table.right.clocks)) in
-    (clocks, few, c.requires.stand.few, omega (arith, clocks, c.variables-variables.ensures.0))
+    (omega (arith, clocks, c.args.model.now.right.right.clocks)) in
+    (clocks, few, omega (arith, clocks, c.variables-variables.ensures.0))
 
 pub all_added-off-requires : goal.all_added-off-requires
 all_added-off-requires c =
-    let clocks : c.clocks-clocks.result ≡ (decode c.args.model.now).clocks =
-    (c.clocks-clocks.ensures ∙ clocks_is c.args.model.now c.requires.right_table) in
+    let clocks : c.clocks-clocks.result ≡ (decode c.args.model.now.cells.now).clocks =
+    (c.clocks-clocks.ensures ∙ clocks_is c.args.model.now.cells.now c.args.model.now.right) in
     let few : c.clocks-clocks.result ≤ 4 =
-    (omega (arith, clocks, c.requires.right_table.right.clocks)) in
+    (omega (arith, clocks, c.args.model.now.right.right.clocks)) in
     (few, c.variables-variables.ensures.1)
 
 pub returns : goal.returns
 returns c h st w =
-    let clocks : c.clocks-clocks.result ≡ (decode c.args.model.now).clocks =
-    (c.clocks-clocks.ensures ∙ clocks_is c.args.model.now c.requires.right_table) in
-    let t = c.args.model.now in
+    let clocks : c.clocks-clocks.result ≡ (decode c.args.model.now.cells.now).clocks =
+    (c.clocks-clocks.ensures ∙ clocks_is c.args.model.now.cells.now c.args.model.now.right) in
+    let t = c.args.model.now.cells.now in
     let v = c.variables-variables.ensures.0 in
-    planned t h st c.args.location c.args.edge c.args.slots c.args.time c.args.sum w c.requires.stand (six c)
+    planned t h st c.args.location c.args.edge c.args.slots c.args.time c.args.sum w c.requires c.tasks-tasks.result (search rules) c.tasks-tasks.ensures
     c.variables-variables.result c.all_from-from.result c.all_added-off.result v
     c.all_from-from.ensures.0 c.all_from-from.ensures.1
     (λ i e. adds_same (clocks) (back c.args.time c.ranges.time) (back c.args.sum c.ranges.sum) (c.all_added-off.ensures.0 i e))

@@ -5,34 +5,22 @@ use Rattle.meaning.specs.Zones.Steps as S
 use Rattle.meaning.specs.Text.ModelTable.{decode}
 use Rattle.home.specs.Stands.{home_of}
 use Rattle.zone_list.specs.declared.form.Kind.{Kind}
-use Rattle.zone_list.specs.declared.form.Kind.TheVariants.{GoOn, Finish}
+use Rattle.zone_list.specs.declared.form.Kind.TheVariants.{GoOn}
 use Rattle.zone_list.specs.Steps.{ahead_of, step_by, step_of}
-use Rattle.step_reach.specs.Plans.{Planned, Keeps}
+use Rattle.step_reach.specs.Plans.{Keeps}
 use Rattle.step_reach.proofs.PlanLaws.{on_keeps, over_keeps}
 use Rattle.step_reach.proofs.plan.plan_of.Goals as goal
 
 pub returns-then-overflows : goal.returns-then-overflows
 returns-then-overflows c =
-    let m = decode c.args.model.now in
+    let m = decode c.args.model.now.cells.now in
     let h = home_of c.args.home in
     c.kept.ensures (step_of c.args.step) (over_keeps m h (step_of c.args.step) (sym c.overflows.ensures ∙ c.if-overflows.true))
 
-pub entered-requires : goal.entered-requires
-entered-requires c =
-    record { right_table = c.requires.right_table; right_home = c.requires.right_home; listed = c.requires.listed; kind_value = c.in-Edge.is; step_value = sym c.overflows.ensures ∙ c.if-overflows.false }
-
 pub returns-in-GoOn : goal.returns-in-GoOn
 returns-in-GoOn c =
-    let m = decode c.args.model.now in
+    let m = decode c.args.model.now.cells.now in
     let h = home_of c.args.home in
     let e : c.args.step.kind ≡ GoOn = c.in-GoOn.is in
     let k : step_of c.args.step ≡ S.go_on = ap (λ (x : Kind). step_by x (ahead_of c.args.step)) e in
     c.kept-in-GoOn.ensures (step_of c.args.step) (subst (λ (st : S.Step). Keeps m h st (pos 1)) (sym k) (on_keeps m h))
-
-pub returns-in-Finish : goal.returns-in-Finish
-returns-in-Finish c =
-    let m = decode c.args.model.now in
-    let h = home_of c.args.home in
-    let e : c.args.step.kind ≡ Finish = c.in-Finish.is in
-    let k : step_of c.args.step ≡ S.finish = ap (λ (x : Kind). step_by x (ahead_of c.args.step)) e in
-    subst (λ (st : S.Step). Planned m h st c.finished.result) (sym k) c.finished.ensures

@@ -3,11 +3,8 @@ use mathlib.Core.Path.{sym, subst}
 use native.Mathlib.Omega.{arith}
 use Rattle.bounds.proofs.Signed.{back}
 use Rattle.step_reach.specs.Plans.{Adds}
-use Rattle.step_reach.proofs.VariableLaws.{added_zero, added_clock, added_sum, added_age}
+use Rattle.step_reach.proofs.VariableLaws.{added_clock, added_sum, added_age}
 use Rattle.step_reach.proofs.variables.added_to.Goals as goal
-
-pub returns-then-i-eq0 : goal.returns-then-i-eq0
-returns-then-i-eq0 c = let s = c.args in added_zero s.clocks s.time s.sum s.i c.if-i-eq0.true
 
 pub returns-then-i-clocks : goal.returns-then-i-clocks
 returns-then-i-clocks c =

@@ -18,42 +18,42 @@ use Rattle.verdict.proofs.kinds.late_at.Goals as goal
 
 pub bounds-tasks-k : goal.bounds-tasks-k
 bounds-tasks-k c =
-    late_index c.args.model.now c.requires.right_table c.args.t c.args.plan (search rules) c.args.late c.requires.late_by
+    late_index c.args.model.now.cells.now c.args.model.now.right c.args.m.now c.args.plan (search rules) c.args.late c.requires.late_by
 
 pub overflow_cast-d : goal.overflow_cast-d
 overflow_cast-d c =
-    let D-of : c.deadline-d.result ≡ deadline_in c.args.model.now (get_or c.args.plan.home.tasks (c.args.late - 1) 0) =
+    let D-of : c.deadline-d.result ≡ deadline_in c.args.model.now.cells.now (get_or c.args.plan.home.tasks (c.args.late - 1) 0) =
     (c.deadline-d.ensures) in
     let small : c.deadline-d.result < 20000 =
-    (omega (arith, D-of, deadline_small c.args.model.now c.requires.right_table (get_or c.args.plan.home.tasks (c.args.late - 1) 0))) in
+    (omega (arith, D-of, deadline_small c.args.model.now.cells.now c.args.model.now.right (get_or c.args.plan.home.tasks (c.args.late - 1) 0))) in
     fits_make (omega (arith, small)) (omega arith)
 
 pub sum_at-age-requires : goal.sum_at-age-requires
 sum_at-age-requires c =
     let six : length c.args.plan.home.tasks ≡ 6 = search rules in
-    let i = late_index c.args.model.now c.requires.right_table c.args.t c.args.plan six c.args.late c.requires.late_by in
-    (omega (arith, c.clocks.ensures, clocks_small c.args.model.now c.requires.right_table), omega arith)
+    let i = late_index c.args.model.now.cells.now c.args.model.now.right c.args.m.now c.args.plan six c.args.late c.requires.late_by in
+    (omega (arith, c.clocks.ensures, clocks_small c.args.model.now.cells.now c.args.model.now.right), omega arith)
 
 pub smallest_apart-requires : goal.smallest_apart-requires
 smallest_apart-requires c =
     let six : length c.args.plan.home.tasks ≡ 6 = search rules in
-    let D-of : c.deadline-d.result ≡ deadline_in c.args.model.now (get_or c.args.plan.home.tasks (c.args.late - 1) 0) = c.deadline-d.ensures in
+    let D-of : c.deadline-d.result ≡ deadline_in c.args.model.now.cells.now (get_or c.args.plan.home.tasks (c.args.late - 1) 0) = c.deadline-d.ensures in
     let small : c.deadline-d.result < 20000 =
-    omega (arith, D-of, deadline_small c.args.model.now c.requires.right_table (get_or c.args.plan.home.tasks (c.args.late - 1) 0)) in
+    omega (arith, D-of, deadline_small c.args.model.now.cells.now c.args.model.now.right (get_or c.args.plan.home.tasks (c.args.late - 1) 0)) in
     let as_is : to_z w32 c.deadline-d.result ≡ pos c.deadline-d.result = to_z_pos w32 c.deadline-d.result (omega (arith, small)) in
-    let age-of : c.sum_at-age.result + 1 ≡ suc (suc (clocks c.args.model.now) + ((c.args.late - 1) + (c.args.late - 1))) =
+    let age-of : c.sum_at-age.result + 1 ≡ suc (suc (clocks c.args.model.now.cells.now) + ((c.args.late - 1) + (c.args.late - 1))) =
     omega (arith, c.sum_at-age.ensures, c.clocks.ensures) in
-    let a = late_asks c.args.model.now c.requires.right_table c.args.t c.args.plan six c.args.late c.requires.late_by (c.sum_at-age.result + 1) age-of c.deadline-d.result D-of in
-    rw as_is (record { right_table = c.requires.right_table; i_lt_variables = (a.0, a.1); size = a.2; apart_by = a.3 })
+    let a = late_asks c.args.model.now.cells.now c.args.model.now.right c.args.m.now c.args.plan six c.args.late c.requires.late_by (c.sum_at-age.result + 1) age-of c.deadline-d.result D-of in
+    rw as_is (record { i_lt_variables = (a.0, a.1); size = a.2; apart_by = a.3 })
 
 pub returns : goal.returns
 returns c =
     let six : length c.args.plan.home.tasks ≡ 6 = search rules in
-    let D-of : c.deadline-d.result ≡ deadline_in c.args.model.now (get_or c.args.plan.home.tasks (c.args.late - 1) 0) = c.deadline-d.ensures in
+    let D-of : c.deadline-d.result ≡ deadline_in c.args.model.now.cells.now (get_or c.args.plan.home.tasks (c.args.late - 1) 0) = c.deadline-d.ensures in
     let small : c.deadline-d.result < 20000 =
-    omega (arith, D-of, deadline_small c.args.model.now c.requires.right_table (get_or c.args.plan.home.tasks (c.args.late - 1) 0)) in
+    omega (arith, D-of, deadline_small c.args.model.now.cells.now c.args.model.now.right (get_or c.args.plan.home.tasks (c.args.late - 1) 0)) in
     let as_is : to_z w32 c.deadline-d.result ≡ pos c.deadline-d.result = to_z_pos w32 c.deadline-d.result (omega (arith, small)) in
-    let age-of : c.sum_at-age.result + 1 ≡ suc (suc (clocks c.args.model.now) + ((c.args.late - 1) + (c.args.late - 1))) =
+    let age-of : c.sum_at-age.result + 1 ≡ suc (suc (clocks c.args.model.now.cells.now) + ((c.args.late - 1) + (c.args.late - 1))) =
     omega (arith, c.sum_at-age.ensures, c.clocks.ensures) in
-    late_judged c.args.model.now c.requires.right_table c.args.t c.args.plan six c.args.late c.requires.late_by (c.sum_at-age.result + 1) age-of c.deadline-d.result D-of c.smallest_apart.result
+    late_judged c.args.model.now.cells.now c.args.model.now.right c.args.m.now c.args.plan six c.args.late c.requires.late_by (c.sum_at-age.result + 1) age-of c.deadline-d.result D-of c.smallest_apart.result
     (rw as_is at c.smallest_apart.ensures)

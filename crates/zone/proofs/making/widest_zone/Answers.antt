@@ -3,4 +3,4 @@ use Rattle.zone.proofs.MadeLaws.{widest_made}
 use Rattle.zone.proofs.making.widest_zone.Goals as goal
 
 pub returns : goal.returns
-returns c = λ m r. widest_made m _ _ r c.no_bounds-bounds.ensures
+returns c = λ m r. widest_made m _ _ r c.no_bounds.ensures

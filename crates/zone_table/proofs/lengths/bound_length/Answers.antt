@@ -1,13 +1,7 @@
 -- `zone_table::lengths::bound_length` meets its contract.
-use Prim.Native.Nat.{◌-◌}
-use Rattle.meaning.specs.Text.ProposalText.{bound_text}
-use Rattle.zone_table.specs.Kept.{kept_bound}
 use native.Mathlib.Omega.{arith}
-use Rattle.zone_table.proofs.LengthLaws.{bound_there, not_there}
+use Rattle.zone_table.proofs.LengthLaws.{bound_there}
 use Rattle.zone_table.proofs.lengths.bound_length.Goals as goal
 
 pub returns-then-v-gt0 : goal.returns-then-v-gt0
 returns-then-v-gt0 c = let a = c.args in omega (arith, bound_there a.i a.j a.v (omega arith), c.kept_length.ensures, c.kept_length-then-v-gt0.ensures, c.kept_length-then-v-gt0-2.ensures)
-
-pub returns-else-v-gt0 : goal.returns-else-v-gt0
-returns-else-v-gt0 c = let a = c.args in omega (arith, not_there a.v (bound_text (kept_bound a.i a.j (a.v - 1))) (omega arith))

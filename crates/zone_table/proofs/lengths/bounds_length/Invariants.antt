@@ -7,6 +7,3 @@ use Rattle.zone_table.proofs.lengths.bounds_length.Given as goal
 
 abbrev pub invariant-loop-x : goal.invariant-loop-x
 invariant-loop-x l = (l.x ≤ 289) × (l.n ≡ length (bound_row l.zones (l.zone - 1) l.x)) × (l.n ≤ 27 * l.x)
-
-abbrev pub decreases-loop-x : goal.decreases-loop-x
-decreases-loop-x l = 289 - l.x

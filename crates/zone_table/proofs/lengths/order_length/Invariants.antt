@@ -8,6 +8,3 @@ use Rattle.zone_table.proofs.lengths.order_length.Given as goal
 
 abbrev pub invariant-loop-x : goal.invariant-loop-x
 invariant-loop-x l = (l.x ≤ 6) × (l.n ≡ 4 + length (kept_text 0 (get_or l.zones (8 * (l.zone - 1)) 0 - 1)) + length (task_row l.zones (l.zone - 1) l.x)) × (l.n ≤ 11 + 8 * l.x)
-
-abbrev pub decreases-loop-x : goal.decreases-loop-x
-decreases-loop-x l = 6 - l.x

@@ -8,7 +8,7 @@ use Rattle.zone_table.proofs.test.order_fits.Goals as goal
 pub returns : goal.returns
 returns c =
     let a = c.args in
-    let m = decode a.model.now in
+    let m = decode a.model.now.cells.now in
     let k = a.zone - 1 in
     let h = c.home_at in
     same_test _ c.is_home.ensures (home_sound m a.zones.now k h.result h.ensures) (sound_home m a.zones.now k h.result h.ensures)

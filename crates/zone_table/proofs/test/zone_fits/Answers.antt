@@ -1,15 +1,8 @@
 -- `zone_table::test::zone_fits` meets its contract.
 use Prim.Native.Nat.{◌-◌}
-use Rattle.zone_table.proofs.Deciding.{no, ruled_out}
+use Rattle.zone_table.proofs.Deciding.{failed}
 use Rattle.zone_table.proofs.ZoneTests.{zone_bounds, zone_test}
 use Rattle.zone_table.proofs.test.zone_fits.Goals as goal
-
-pub returns-then-not-order_fits : goal.returns-then-not-order_fits
-returns-then-not-order_fits c = no (λ s. ruled_out _ c.order_fits.ensures c.if-not-order_fits.true s.order)
-
-pub claims_due-requires : goal.claims_due-requires
-claims_due-requires c =
-    (c.requires.0, c.requires.1, c.requires.2, c.order_fits.ensures.0 c.if-not-order_fits.false)
 
 pub returns-then-bounds_fit : goal.returns-then-bounds_fit
 returns-then-bounds_fit c =
@@ -19,4 +12,4 @@ returns-then-bounds_fit c =
 pub returns-else-bounds_fit : goal.returns-else-bounds_fit
 returns-else-bounds_fit c =
     let a = c.args in
-    no (zone_bounds a.model.now c.requires.0 a.zones.now (a.zone - 1) _ _ c.variables-n.ensures.0 c.queued.ensures.0 _ c.bounds_fit.ensures c.if-bounds_fit.false)
+    failed _ c.if-bounds_fit.false (zone_bounds a.model.now c.requires.0 a.zones.now (a.zone - 1) _ _ c.variables-n.ensures.0 c.queued.ensures.0 _ c.bounds_fit.ensures c.if-bounds_fit.false)

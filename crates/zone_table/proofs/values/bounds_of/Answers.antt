@@ -12,14 +12,6 @@ use borrow.Author.Rules.{rules}
 use native.Mathlib.Omega.{arith}
 use Rattle.zone_table.proofs.values.bounds_of.Goals as goal
 
-pub loop-x-init : goal.loop-x-init
-loop-x-init c = (omega arith, search rules, λ q h. absurd (omega arith))
-
-pub entry-v-requires : goal.entry-v-requires
-entry-v-requires c =
-    let w = c.requires.2 c.loop-x.x (omega arith) in
-    omega (arith, c.cell.ensures ∙ ap (λ (i : ℕ). get_or c.args.zones.now (i + c.loop-x.x) 0) c.bounds_start-from.ensures)
-
 pub loop-x-preserved : goal.loop-x-preserved
 loop-x-preserved c =
     let a = c.args in
@@ -29,12 +21,6 @@ loop-x-preserved c =
     let f = entry_fits c.cell.result (let w = c.requires.2 l.x (omega arith) in omega (arith, e)) in (
       omega arith,
       search rules,
-      stored (pos 0) (λ q z. z ≡ entry_of_kept (get_or a.zones.now (s.result + q) 0)) l.b l.x (to_z w32 (of_z w32 c.entry-v.result)) (omega arith) l.invariant.2
-          (ap (λ (z : ℤ). to_z w32 (of_z w32 z)) c.entry-v.ensures ∙ to_z-of_z w32 (entry_of_kept c.cell.result) f ∙ ap entry_of_kept c.cell.ensures),
+      stored (pos 0) (λ q z. z ≡ entry_of_kept (get_or a.zones.now (s.result + q) 0)) l.bound-items l.x (to_z w32 (of_z w32 c.entry.result)) (omega arith) l.invariant.2
+          (ap (λ (z : ℤ). to_z w32 (of_z w32 z)) c.entry.ensures ∙ to_z-of_z w32 (entry_of_kept c.cell.result) f ∙ ap entry_of_kept c.cell.ensures),
     )
-
-pub returns : goal.returns
-returns c =
-    let a = c.args in
-    let l = c.loop-x in
-    record { long = l.invariant.1; each = λ x h. l.invariant.2 x (omega arith) ∙ ap (λ (i : ℕ). entry_of_kept (get_or a.zones.now (i + x) 0)) c.bounds_start-from.ensures }

@@ -9,12 +9,10 @@ pub returns-then-not-is_model : goal.returns-then-not-is_model
 returns-then-not-is_model c =
     let a = c.args in
     let n = c.is_model.ensures.no c.if-not-is_model.true in
-    record { over = λ g. absurd (n g); none = λ _. answered_refused _ _ _ 13 0 (read_no_model (decode a.model.now) (length a.zones.now) a.text.now) c.clear.ensures }
+    record {
+      over = λ g. absurd (n g);
+      none = λ _. answered_refused _ _ _ _ _ _ c.refused.ensures (read_no_model (decode a.model.now) (length a.zones.now) a.text.now) (c.fill.ensures.after (λ y h. h));
+    }
 
-pub read_given-requires : goal.read_given-requires
-read_given-requires c = given_table _ (c.is_model.ensures.yes c.if-not-is_model.false)
-
-pub returns : goal.returns
-returns c =
-    let g = c.is_model.ensures.yes c.if-not-is_model.false in
-    record { over = λ _. c.read_given.ensures; none = λ n. absurd (n g) }
+pub invariant_of-read_given : goal.invariant_of-read_given
+invariant_of-read_given c = record { right = given_table _ (c.is_model.ensures.yes c.if-not-is_model.false) }

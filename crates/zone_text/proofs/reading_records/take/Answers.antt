@@ -1,30 +1,31 @@
--- `take` meets its contract.
+-- `zone_text::reading_records::take` meets its contract.
+use mathlib.Core.Path.{refl}
 use Rattle.meaning.specs.Text.ModelTable.{decode}
 use Rattle.zone_text.proofs.Laws.Orders.{took_wrong}
-use Rattle.zone_text.proofs.Laws.Marks.{look_order_lem, look_bound_lem, look_claims_lem, look_end_lem, look_none}
+use Rattle.zone_text.proofs.Laws.Marks.{look_mark}
 use Rattle.zone_text.proofs.reading_records.take.Goals as goal
 
-pub returns-in-1 : goal.returns-in-1
-returns-in-1 c =
+pub returns-in-Some-Order : goal.returns-in-Some-Order
+returns-in-Some-Order c =
     let a = c.args in
-    λ y h. rw (look_order_lem (decode a.model.now) a.s.now a.at _ c.mark.ensures y c.in-1.is) (c.take_order.ensures y h)
+    λ y h. rw (look_mark (decode a.model.now.cells.now) a.s.now a.at _ c.mark_at.ensures y, c.in-Some-Order.is, c.in-Some-Order.field-0-is) (c.take_order.ensures y h)
 
-pub returns-in-2 : goal.returns-in-2
-returns-in-2 c =
+pub returns-in-Some-Bound : goal.returns-in-Some-Bound
+returns-in-Some-Bound c =
     let a = c.args in
-    λ y h. rw (look_bound_lem (decode a.model.now) a.s.now a.at _ c.mark.ensures y c.in-2.is) (c.take_bound.ensures y h)
+    λ y h. rw (look_mark (decode a.model.now.cells.now) a.s.now a.at _ c.mark_at.ensures y, c.in-Some-Bound.is, c.in-Some-Bound.field-0-is) (c.take_bound.ensures y h)
 
-pub returns-in-3 : goal.returns-in-3
-returns-in-3 c =
+pub returns-in-Some-Claims : goal.returns-in-Some-Claims
+returns-in-Some-Claims c =
     let a = c.args in
-    λ y h. rw (look_claims_lem (decode a.model.now) a.s.now a.at _ c.mark.ensures y c.in-3.is) (c.take_claims.ensures y h)
+    λ y h. rw (look_mark (decode a.model.now.cells.now) a.s.now a.at _ c.mark_at.ensures y, c.in-Some-Claims.is, c.in-Some-Claims.field-0-is) (c.take_claims.ensures y h)
 
-pub returns-in-4 : goal.returns-in-4
-returns-in-4 c =
+pub returns-in-Some-End : goal.returns-in-Some-End
+returns-in-Some-End c =
     let a = c.args in
-    λ y h. rw (look_end_lem (decode a.model.now) a.s.now a.at _ c.mark.ensures y c.in-4.is) (c.take_end.ensures (decode a.model.now) y h)
+    λ y h. rw (look_mark (decode a.model.now.cells.now) a.s.now a.at _ c.mark_at.ensures y, c.in-Some-End.is, c.in-Some-End.field-0-is) (c.take_end.ensures (decode a.model.now.cells.now) y h)
 
-pub returns-in_default : goal.returns-in_default
-returns-in_default c =
+pub returns-in-None : goal.returns-in-None
+returns-in-None c =
     let a = c.args in
-    λ y h. took_wrong _ y 3 a.at _ _ (look_none (decode a.model.now) a.s.now a.at _ c.mark.ensures y c.in_default.in_default-own.rest.0.0.0.1 c.in_default.in_default-own.rest.0.0.1 c.in_default.in_default-own.rest.0.1 c.in_default.in_default-own.rest.1)
+    λ y h. rw (look_mark (decode a.model.now.cells.now) a.s.now a.at _ c.mark_at.ensures y, c.in-None.is) (took_wrong _ y _ _ _ a.t.now a.t.now c.refused.ensures refl)

@@ -1,43 +1,35 @@
 -- `zone_text::reading_records::take_bound` meets its contract.
 use Prim.Native.Nat.{ℕ, ◌-◌}
 use mathlib.Core.Path.{ap}
-use borrow.Author.Tests.{not-true, not-false}
+use Rattle.std.proofs.lemmas.Result.{err_from_is_err_and}
 use Rattle.meaning.specs.Text.ModelTable.{decode}
-use Rattle.zone_text.proofs.Laws.Orders.{took_wrong}
+use Rattle.zone_text.proofs.Laws.Orders.{took_wrong, took_line}
 use Rattle.zone_text.proofs.Laws.Bounds.{bound_due, bound_refused, bound_same, bound_low, bound_taken}
 use native.Mathlib.Omega.{arith}
 use Rattle.zone_text.proofs.reading_records.take_bound.Goals as goal
 
-pub returns-then-not-x : goal.returns-then-not-x
-returns-then-not-x c =
+pub returns-in_default : goal.returns-in_default
+returns-in_default c =
     let a = c.args in
-    λ y h. took_wrong _ y 3 a.at _ _ (bound_due (decode a.model.now) c.requires.0.right a.s.now a.at y a.x a.t.now h (not-true _ c.if-not-x.true))
+    λ y h. took_wrong _ y _ _ _ _ _ c.refused.ensures (bound_due (decode a.model.now.cells.now) a.model.now.right.right a.s.now a.at y a.x a.t.now h c.in_default.is)
 
-pub returns-then-r-gt0 : goal.returns-then-r-gt0
-returns-then-r-gt0 c =
+pub returns-in_err-bound : goal.returns-in_err-bound
+returns-in_err-bound c =
     let a = c.args in
-    λ y h. took_wrong _ y _ _ _ _ (bound_refused (decode a.model.now) c.requires.0.right a.s.now a.at y a.x a.t.now h (not-false _ c.if-not-x.false) _ (ap (λ (k : ℕ). k - 1) c.variables-last.ensures.0) (omega (arith, c.variables-last.ensures.1)) c.read_bound-r.result c.read_bound-r.ensures.0 c.if-r-gt0.true)
+    let p = err_from_is_err_and c.from_residual.result c.from_residual.ensures.1 in
+    λ y h. rw (p.1, p.2) (took_line _ y _ _ _ (bound_refused (decode a.model.now.cells.now) a.model.now.right.right a.s.now a.at y a.x a.t.now h _ c.in-Some.is _ (ap (λ (k : ℕ). k - 1) c.variables-last.ensures.0) (omega (arith, c.variables-last.ensures.1)) _ c.in_err-bound.ensures.told))
 
-pub returns-then-r : goal.returns-then-r
-returns-then-r c =
+pub returns-then-bound : goal.returns-then-bound
+returns-then-bound c =
     let a = c.args in
-    λ y h. took_wrong _ y 6 a.at _ _ (bound_same (decode a.model.now) c.requires.0.right a.s.now a.at y a.x a.t.now h (not-false _ c.if-not-x.false) _ (ap (λ (k : ℕ). k - 1) c.variables-last.ensures.0) (omega (arith, c.variables-last.ensures.1)) c.read_bound-r.result c.read_bound-r.ensures.0 c.if-r-gt0.false c.if-r.true)
+    λ y h. took_wrong _ y _ _ _ _ _ c.refused-then-bound.ensures (bound_same (decode a.model.now.cells.now) a.model.now.right.right a.s.now a.at y a.x a.t.now h _ c.in-Some.is _ (ap (λ (k : ℕ). k - 1) c.variables-last.ensures.0) (omega (arith, c.variables-last.ensures.1)) _ c.in_ok-bound.ensures.told c.if-bound.true)
 
-pub returns-then-k-x : goal.returns-then-k-x
-returns-then-k-x c =
+pub returns-then-k-due : goal.returns-then-k-due
+returns-then-k-due c =
     let a = c.args in
-    λ y h. took_wrong _ y 6 a.at _ _ (bound_low (decode a.model.now) c.requires.0.right a.s.now a.at y a.x a.t.now h (not-false _ c.if-not-x.false) _ (ap (λ (k : ℕ). k - 1) c.variables-last.ensures.0) (omega (arith, c.variables-last.ensures.1)) c.read_bound-r.result c.read_bound-r.ensures.0 c.if-r-gt0.false c.if-r.false c.if-k-x.true)
-
-pub overflow_add-x : goal.overflow_add-x
-overflow_add-x c = record { fits = omega (arith, c.requires.1.zones) }
-
-pub bounds_start-from-requires : goal.bounds_start-from-requires
-bounds_start-from-requires c = let z = c.requires.1.due (not-false _ c.if-not-x.false) in (omega arith, omega arith)
-
-pub bounds-t-from : goal.bounds-t-from
-bounds-t-from c = let p = c.requires.1 in omega (arith, p.zones, p.long, c.bounds_start-from.ensures, c.read_bound-r.ensures.1.i, c.read_bound-r.ensures.1.j)
+    λ y h. took_wrong _ y _ _ _ _ _ c.refused-then-k-due.ensures (bound_low (decode a.model.now.cells.now) a.model.now.right.right a.s.now a.at y a.x a.t.now h _ c.in-Some.is _ (ap (λ (k : ℕ). k - 1) c.variables-last.ensures.0) (omega (arith, c.variables-last.ensures.1)) _ c.in_ok-bound.ensures.told c.if-bound.false c.if-k-due.true)
 
 pub returns : goal.returns
 returns c =
     let a = c.args in
-    λ y h. bound_taken (decode a.model.now) c.requires.0.right a.s.now a.at y a.x a.t.now h (not-false _ c.if-not-x.false) _ (ap (λ (k : ℕ). k - 1) c.variables-last.ensures.0) (omega (arith, c.variables-last.ensures.1)) c.read_bound-r.result c.read_bound-r.ensures.0 c.if-r-gt0.false _ c.bounds_start-from.ensures c.if-r.false c.if-k-x.false
+    λ y h. bound_taken (decode a.model.now.cells.now) a.model.now.right.right a.s.now a.at y a.x a.t.now h _ c.in-Some.is _ (ap (λ (k : ℕ). k - 1) c.variables-last.ensures.0) (omega (arith, c.variables-last.ensures.1)) _ c.in_ok-bound.ensures.told _ c.bounds_start-from.ensures c.if-bound.false c.if-k-due.false

@@ -1,66 +1,43 @@
 -- `zone_text::reading_records::take_claims` meets its contract.
-use mathlib.Core.Path.{◌∙◌}
+use Rattle.std.proofs.lemmas.Result.{err_from_is_err_and}
 use borrow.Author.Tests.{not-true, not-false}
 use Rattle.meaning.specs.Text.ModelTable.{decode}
-use Rattle.zone_text.proofs.Laws.Orders.{took_wrong}
-use Rattle.zone_text.proofs.Laws.Claims.{begun_home, claims_due, claims_refused, claims_count, claims_zeros, claims_taken}
+use Rattle.zone_text.proofs.Laws.Rows.{row_stored}
+use Rattle.zone_text.proofs.Laws.Orders.{took_wrong, took_line}
+use Rattle.zone_text.proofs.Laws.Claims.{claims_due, claims_refused, claims_count, claims_zeros, claims_taken}
 use native.Mathlib.Omega.{arith}
+use Rattle.zone_text.proofs.reading_records.take_claims.Goals.{then-row-steps-via-then-row-steps, then-row-steps-via-else-row-steps+then-not-steps}
 use Rattle.zone_text.proofs.reading_records.take_claims.Goals as goal
 
-pub returns-then-not-x : goal.returns-then-not-x
-returns-then-not-x c =
+pub returns-in_default : goal.returns-in_default
+returns-in_default c =
     let a = c.args in
-    λ y h. took_wrong _ y 3 a.at _ _ (claims_due (decode a.model.now) c.requires.0.right a.s.now a.at y a.x a.t.now h (not-true _ c.if-not-x.true))
+    λ y h. took_wrong _ y _ _ _ _ _ c.refused.ensures (claims_due (decode a.model.now.cells.now) a.model.now.right.right a.s.now a.at y a.x a.t.now h c.in_default.is)
 
-pub home_with-home-requires : goal.home_with-home-requires
-home_with-home-requires c = let z = c.requires.1.due (not-false _ c.if-not-x.false) in (omega arith, omega arith, c.requires.1.len)
-
-pub overflow_sub-pool : goal.overflow_sub-pool
-overflow_sub-pool c = let b = c.requires.1 in omega (arith, b.pool, b.within, b.short)
-
-pub returns-then-r-gt0 : goal.returns-then-r-gt0
-returns-then-r-gt0 c =
+pub returns-in_err-row : goal.returns-in_err-row
+returns-in_err-row c =
     let a = c.args in
-    λ y h. took_wrong _ y _ _ _ _ (claims_refused (decode a.model.now) c.requires.0.right a.s.now a.at y a.x a.t.now h c.requires.1.pool c.requires.1.short (not-false _ c.if-not-x.false) c.read_row-r.result _ c.read_row-r.ensures.0 c.if-r-gt0.true)
+    let b = c.requires.0 in
+    let p = err_from_is_err_and c.from_residual.result c.from_residual.ensures.1 in
+    let w = row_stored _ _ a.t.now c.read_row.new.cells (omega (arith, b.long, b.pool, b.within, b.short)) _ _ c.in_err-row.ensures.told in
+    λ y h. rw (p.1, p.2) (took_line _ y _ _ _ (claims_refused (decode a.model.now.cells.now) a.model.now.right.right a.s.now a.at y a.x a.t.now h b.pool b.short _ c.in-Some.is _ (omega (arith, b.long)) _ _ w))
 
-pub steps-w-requires : goal.steps-w-requires
-steps-w-requires c =
+pub returns-then-row-steps : goal.returns-then-row-steps
+returns-then-row-steps c =
     let a = c.args in
-    let d = not-false _ c.if-not-x.false in
-    let z = c.requires.1.due d in
-    record { right_table = c.requires.0; right_home = begun_home (decode a.model.now) a.x a.t.now c.home_with-home.result c.requires.2 d c.requires.1.len c.home_with-home.ensures; at_le_size = omega (arith, c.requires.1.pool, c.requires.1.within, c.requires.1.short) }
-
-pub returns-then-many-w : goal.returns-then-many-w
-returns-then-many-w c =
-    let a = c.args in
-    λ y h. took_wrong _ y 9 a.at _ _ (claims_count (decode a.model.now) c.requires.0.right a.s.now a.at y a.x a.t.now h c.requires.1.pool c.requires.1.short (not-false _ c.if-not-x.false) c.read_row-r.result _ c.read_row-r.ensures.0
-    c.if-r-gt0.false c.home_with-home.result c.home_with-home.ensures c.steps-w.result c.steps-w.ensures c.if-many-w.true)
-
-pub returns-then-not-w : goal.returns-then-not-w
-returns-then-not-w c =
-    let a = c.args in
-    let z = c.requires.1.due (not-false _ c.if-not-x.false) in
-    λ y h. took_wrong _ y 9 a.at _ _ (claims_zeros (decode a.model.now) c.requires.0.right a.s.now a.at y a.x a.t.now h c.requires.1.pool c.requires.1.short (not-false _ c.if-not-x.false) c.read_row-r.result _ c.read_row-r.ensures.0
-    c.if-r-gt0.false c.home_with-home.result c.home_with-home.ensures c.steps-w.result c.steps-w.ensures c.if-many-w.false (not-true _ c.if-not-w.true))
-
-pub head_start-head-requires : goal.head_start-head-requires
-head_start-head-requires c = let z = c.requires.1.due (not-false _ c.if-not-x.false) in (omega arith, omega arith)
-
-pub overflow_add-t : goal.overflow_add-t
-overflow_add-t c = let b = c.requires.1 in record { fits = omega (arith, b.pool, b.within, b.short, c.read_row-r.ensures.1) }
-
-pub overflow_cast-t : goal.overflow_cast-t
-overflow_cast-t c = let b = c.requires.1 in record { fits = omega (arith, b.pool, b.within, b.short, c.read_row-r.ensures.1) }
-
-pub bounds-t-head : goal.bounds-t-head
-bounds-t-head c = let n = c.read_row-r.auto.t ∙ c.requires.1.long in omega (arith, n, c.head_start-head.ensures, c.requires.1.zones)
-
-pub overflow_add-result : goal.overflow_add-result
-overflow_add-result c = let b = c.requires.1 in record { fits = omega (arith, b.pool, b.within, b.short, c.read_row-r.ensures.1) }
+    let b = c.requires.0 in
+    let w = row_stored _ _ a.t.now c.read_row.new.cells (omega (arith, b.long, b.pool, b.within, b.short)) _ _ c.in_ok-row.ensures.told in
+    λ y h. took_wrong _ y _ _ _ _ _ c.refused-then-row-steps.ensures (elim c.then-row-steps.branch [
+      | then-row-steps-via-then-row-steps u ↦ claims_count (decode a.model.now.cells.now) a.model.now.right.right a.s.now a.at y a.x a.t.now h b.pool b.short _ c.in-Some.is _ (omega (arith, b.long)) _ _ w
+          c.home_with-home.result c.home_with-home.ensures c.steps-steps.result c.steps-steps.ensures u.if-row-steps.true
+      | then-row-steps-via-else-row-steps+then-not-steps u ↦ claims_zeros (decode a.model.now.cells.now) a.model.now.right.right a.s.now a.at y a.x a.t.now h b.pool b.short _ c.in-Some.is _ (omega (arith, b.long)) _ _ w
+          c.home_with-home.result c.home_with-home.ensures c.steps-steps.result c.steps-steps.ensures u.if-row-steps.false (not-true _ u.if-not-steps.true)
+    ])
 
 pub returns : goal.returns
 returns c =
     let a = c.args in
-    let z = c.requires.1.due (not-false _ c.if-not-x.false) in
-    λ y h. claims_taken (decode a.model.now) c.requires.0.right a.s.now a.at y a.x a.t.now h c.requires.1.pool c.requires.1.short (not-false _ c.if-not-x.false) c.read_row-r.result _ c.read_row-r.ensures.0
-    c.if-r-gt0.false c.home_with-home.result c.home_with-home.ensures c.steps-w.result c.steps-w.ensures _ c.head_start-head.ensures c.if-many-w.false (not-false _ c.if-not-w.false)
+    let b = c.requires.0 in
+    let w = row_stored _ _ a.t.now c.read_row.new.cells (omega (arith, b.long, b.pool, b.within, b.short)) _ _ c.in_ok-row.ensures.told in
+    λ y h. claims_taken (decode a.model.now.cells.now) a.model.now.right.right a.s.now a.at y a.x a.t.now h b.pool b.short _ c.in-Some.is _ (omega (arith, b.long)) _ _ w
+    c.home_with-home.result c.home_with-home.ensures c.steps-steps.result c.steps-steps.ensures _ c.head_start.ensures c.if-row-steps.false (not-false _ c.if-not-steps.false)

@@ -1,43 +1,33 @@
 -- `read_order` meets its contract.
-use Prim.Native.Nat.{◌+◌, ◌≤◌}
-use mathlib.Core.Path.{sym, ap, ◌∙◌}
+use mathlib.Core.Path.{ap}
+use Rattle.std.specs.Prelude.{Err}
+use Rattle.std.proofs.lemmas.Result.{err_from_is_err_and}
 use native.Mathlib.Omega.{arith}
-use lib.ListN.{length-set}
 use Rattle.meaning.proofs.Text.Places.{field_next}
 use Rattle.meaning.proofs.Text.NumeralSmall.{field_small}
-use Rattle.lines.specs.Meant.{meant}
-use Rattle.zone_text.proofs.Laws.Rows.{head_stuck, head_then, head_told}
+use Rattle.lines.proofs.Laws.Numbers.{meant_ok, meant_err, broken_is}
+use Rattle.zone_text.proofs.Laws.Rows.{head_stuck, head_then, head_lent}
 use Rattle.zone_text.proofs.reading_rows.read_order.Goals as goal
 
-pub overflow_add-t : goal.overflow_add-t
-overflow_add-t c =
-    let f = sym c.read_field.ensures ∙ ap meant c.in-Num.is in
-    let g = field_small _ c.args.s.now c.args.at _ _ _ f in
-    record { fits = omega arith }
+pub returns-in_err-location-clause-told : goal.returns-in_err-location-clause-told
+returns-in_err-location-clause-told c =
+    let a = c.args in
+    let p = err_from_is_err_and c.from_residual.result c.from_residual.ensures.1 in
+    let e = c.in_err-location.ensures in
+    rw (p.1, p.2, head_stuck a.s.now a.at a.locations a.tasks _ (meant_err _ _ e)) (ap Err (broken_is _ _ e))
 
-pub read_row-r-requires : goal.read_row-r-requires
-read_row-r-requires c = simp length-set (omega arith)
+pub overflow_add-cells : goal.overflow_add-cells
+overflow_add-cells c =
+    let g = field_small _ c.args.s.now c.args.at _ _ _ (meant_ok _ _ c.in_ok-location.ensures) in
+    record { fits = omega arith }
 
 pub overflow_add-at : goal.overflow_add-at
 overflow_add-at c =
-    let f = sym c.read_field.ensures ∙ ap meant c.in-Num.is in
-    let g = field_next _ c.args.s.now c.args.at _ _ _ f in
+    let g = field_next _ c.args.s.now c.args.at _ _ _ (meant_ok _ _ c.in_ok-location.ensures) in
     record { fits = omega arith }
 
-pub returns-in-Stuck : goal.returns-in-Stuck
-returns-in-Stuck c =
+pub returns-clause-told : goal.returns-clause-told
+returns-clause-told c =
     let a = c.args in
-    let f = sym c.read_field.ensures ∙ ap meant c.in-Stuck.is in
-    (rw (head_stuck a.s.now a.at a.locations a.tasks _ f) c.refused.ensures, omega (arith, c.refused.ensures.2))
-
-pub shape_of-t : goal.shape_of-t
-shape_of-t c = c.read_row-r.auto.t ∙ simp length-set
-
-pub returns-in-Num : goal.returns-in-Num
-returns-in-Num c =
-    let a = c.args in
-    let f = sym c.read_field.ensures ∙ ap meant c.in-Num.is in
-    let w = c.read_row-r.ensures in
-    let j = c.joined.ensures in
-    let n : c.joined.result.many ≤ 6 = omega (arith, w.1, j.1) in
-    (rw (head_then a.s.now a.at a.locations a.tasks _ _ _ f) (head_told c.joined.result a.q a.t.now _ n a.locations (a.at + 1) _ _ (j.0 _ _ _ _ _ w.0)), n)
+    rw (head_then a.s.now a.at a.locations a.tasks _ _ _ (meant_ok _ _ c.in_ok-location.ensures))
+    (head_lent _ _ _ _ _ a.cells.now _ c.requires c.read_row.ensures.few (rw c.first_out-out.ensures at c.read_row.ensures.told))

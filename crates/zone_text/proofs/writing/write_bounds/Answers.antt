@@ -25,8 +25,5 @@ loop-x-preserved c =
     let w = c.write_bound-p in
     (omega arith, put_length _ _ _ _ _ w.ensures ∙ l.invariant.1, bounds_put a.zones.now (a.zone - 1) a.buf.now a.at l.buf _ l.p w.result l.x _ e l.invariant.2 w.ensures)
 
-pub shape_of-buf : goal.shape_of-buf
-shape_of-buf c = c.loop-x.invariant.1
-
 pub returns : goal.returns
 returns c = let a = c.args in let l = c.loop-x in bounds_put_all a.zones.now (a.zone - 1) a.buf.now a.at l.buf l.p l.x (omega arith) l.invariant.2

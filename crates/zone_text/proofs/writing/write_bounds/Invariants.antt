@@ -8,6 +8,3 @@ use Rattle.zone_text.proofs.writing.write_bounds.Given as goal
 
 abbrev pub invariant-loop-x : goal.invariant-loop-x
 invariant-loop-x l = (l.x ≤ 289) × (length l.buf ≡ length l.initial.buf) × Put l.initial.buf l.at (bound_row l.zones (l.zone - 1) l.x) l.buf l.p
-
-abbrev pub decreases-loop-x : goal.decreases-loop-x
-decreases-loop-x l = 289 - l.x

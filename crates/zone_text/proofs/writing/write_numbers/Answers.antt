@@ -21,8 +21,5 @@ loop-x-preserved c =
     let w = c.write_field-p in
     (omega arith, put_length _ _ _ _ _ w.ensures ∙ l.invariant.1, claims_put a.zones.now a.from a.buf.now a.at l.buf _ l.p w.result l.x _ _ c.less_one-v.ensures c.cell.ensures l.invariant.2 w.ensures)
 
-pub shape_of-buf : goal.shape_of-buf
-shape_of-buf c = c.loop-x.invariant.1
-
 pub returns : goal.returns
 returns c = let a = c.args in let l = c.loop-x in claims_put_all a.zones.now a.from a.n a.buf.now a.at l.buf l.p l.x (omega arith) l.invariant.2

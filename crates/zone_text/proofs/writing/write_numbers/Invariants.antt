@@ -1,5 +1,5 @@
 -- What the loops of `write_numbers` keep, and how they end.
-use Prim.Native.Nat.{◌-◌, ◌≤◌}
+use Prim.Native.Nat.{◌≤◌}
 use mathlib.Core.Path.{◌≡◌}
 use lib.ListN.{length}
 use Rattle.lines.specs.Put.{Put}
@@ -8,6 +8,3 @@ use Rattle.zone_text.proofs.writing.write_numbers.Given as goal
 
 abbrev pub invariant-loop-x : goal.invariant-loop-x
 invariant-loop-x l = (l.x ≤ l.n) × (length l.buf ≡ length l.initial.buf) × Put l.initial.buf l.at (claim_row l.zones l.from l.x) l.buf l.p
-
-abbrev pub decreases-loop-x : goal.decreases-loop-x
-decreases-loop-x l = l.n - l.x

@@ -8,6 +8,3 @@ use Rattle.zone_text.proofs.writing.write_tasks.Given as goal
 
 abbrev pub invariant-loop-x : goal.invariant-loop-x
 invariant-loop-x l = (l.x ≤ 6) × (length l.buf ≡ length l.initial.buf) × Put l.initial.buf l.at (task_row l.zones (l.zone - 1) l.x) l.buf l.p
-
-abbrev pub decreases-loop-x : goal.decreases-loop-x
-decreases-loop-x l = 6 - l.x

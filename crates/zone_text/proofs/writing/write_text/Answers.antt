@@ -24,17 +24,14 @@ loop-k-preserved c =
     let e : l.k + 1 - 1 ≡ l.k = omega arith in
     (omega arith, put_length _ _ _ _ _ w.ensures ∙ l.invariant.1, zones_put a.zones.now a.buf.now l.buf _ l.p w.result l.k l.invariant.2 (rw e at w.ensures))
 
-pub write_end-requires : goal.write_end-requires
-write_end-requires c =
+pub write_bytes-requires : goal.write_bytes-requires
+write_bytes-requires c =
     let a = c.args in
     let l = c.loop-k in
     end_room a.zones.now a.buf.now l.buf l.p l.k l.invariant.2 l.invariant.1 (omega arith) c.requires
-
-pub shape_of-buf : goal.shape_of-buf
-shape_of-buf c = put_length _ _ _ _ _ c.write_end.ensures ∙ c.loop-k.invariant.1
 
 pub returns : goal.returns
 returns c =
     let a = c.args in
     let l = c.loop-k in
-    end_put a.zones.now a.buf.now l.buf _ l.p _ l.k (omega arith) l.invariant.2 c.write_end.ensures
+    end_put a.zones.now a.buf.now l.buf _ l.p _ l.k (omega arith) l.invariant.2 c.write_bytes.ensures

@@ -1,5 +1,5 @@
 -- What the loops of `write_text` keep, and how they end.
-use Prim.Native.Nat.{◌-◌, ◌≤◌}
+use Prim.Native.Nat.{◌≤◌}
 use mathlib.Core.Path.{◌≡◌}
 use lib.ListN.{length}
 use Rattle.lines.specs.Put.{Put}
@@ -8,6 +8,3 @@ use Rattle.zone_text.proofs.writing.write_text.Given as goal
 
 abbrev pub invariant-loop-k : goal.invariant-loop-k
 invariant-loop-k l = (l.k ≤ 48) × (length l.buf ≡ length l.initial.buf) × Put l.initial.buf 0 (zone_row l.zones l.k) l.buf l.p
-
-abbrev pub decreases-loop-k : goal.decreases-loop-k
-decreases-loop-k l = 48 - l.k

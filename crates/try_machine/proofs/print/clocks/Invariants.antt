@@ -1,9 +1,0 @@
--- What the loops of `clocks` keep, and how they end.
-use Prim.Native.Nat.{◌-◌, ◌≤◌}
-use Rattle.try_machine.proofs.print.clocks.Given as goal
-
-abbrev pub invariant-loop-k : goal.invariant-loop-k
-invariant-loop-k l = l.k ≤ 4
-
-abbrev pub decreases-loop-k : goal.decreases-loop-k
-decreases-loop-k l = 4 - l.k

@@ -11,8 +11,8 @@ const STDIN_FILENO: i32 = 0;
 // Where what is printed goes.
 const STDOUT_FILENO: i32 = 1;
 
-// The next text of standard input into the room, and its length. try_verdict has the same lines: a library for
-// one function of two tests would be no plainer.
+// The next text of standard input into the room, and its length. try_verdict, try_zones and try_model have these
+// nine lines too: a library for one function of four tests would be no plainer.
 fn next_text(room: &mut [u8]) -> Option<usize>
     ensures { IfSome result (λ n. IsPrefixLen n room.new) }
 {

@@ -1,8 +1,7 @@
 // What a step shows of a zone's states: the first position at which a job can be late, and the smallest state.
 //
 // The states of the zone that take the step are one matrix; the plan says where they lead. Nothing is
-// moved as a matrix: an entry after the step is read where it stands before it. Callers lend the table as
-// it is, so that it is right stays a clause of the public functions.
+// moved as a matrix: an entry after the step is read where it stands before it.
 #![tactic(auto)]
 
 mod late;

@@ -1,4 +1,4 @@
-// Who beats whom, as a test of two variables. The policy is looked at here and nowhere else.
+// Who beats whom, as a test of two variables. Nowhere else in this crate is the policy looked at.
 ghost use Rattle.std.specs.Prelude.{ℕ, ◌<◌, Some};
 ghost use Rattle.meaning.specs.Model.{fps, edf, sjf};
 ghost use Rattle.meaning.specs.Inner.Tests.{when_true, when_false, test_by, test_at};

@@ -18,7 +18,7 @@ use zone_list::Step;
 
 // Whether no state takes the step; location and queue order after it; the tightest bounds, that on
 // variable i minus variable j at i * 17 + j, and all 0 if no state takes it. The flag stays beside the
-// bounds, since location and queue order are answers in either case.
+// bounds, since `RightReply` asks for both: "if there are none, it says so with all bounds 0".
 #[derive(Clone, Copy)]
 pub struct StepReply {
     pub empty: bool,

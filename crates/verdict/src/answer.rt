@@ -29,7 +29,8 @@ pub struct Failure {
     pub state: State,
 }
 
-// All obligations hold, so many as were tried; or the first that fails.
+// All obligations hold, so many as were tried; or the first that fails. No Result of its own: a failed
+// obligation is an answer, and the Err of `check` is a refusal.
 #[derive(Clone, Copy)]
 pub enum Verdict {
     Accepted(u32),

@@ -60,7 +60,7 @@ fn broken_at(
     }
 }
 
-// Kinds 4 and 5, with a claim that is not 0.
+// The claimed zone is elsewhere, or its bounds are broken; with a claim that is not 0.
 fn by_claim(model: &ModelTable, zones: &[u32], m: &Matrix, plan: Plan, claim: u32) -> Option<Found>
     requires given { reader.Given (model_of model.now) zones.now × (1 ≤ claim) × (claim ≤ zones_in zones.now) }
     requires drawn_by { DrawnBy (model_of model.now) m.now plan }
@@ -77,7 +77,7 @@ fn by_claim(model: &ModelTable, zones: &[u32], m: &Matrix, plan: Plan, claim: u3
     Some(broken_at(zones, model, m, plan, start, bound))
 }
 
-// The first kind that applies to a step that some state takes: 1 a miss, 2 an overflow, 3 the claim is 0,
+// The first kind that applies to a step that some state takes: a miss, an overflow, the claim is 0,
 // then those of the claimed zone. At an overflow nothing is reached, so nothing is late.
 pub(crate) fn by_kind(
     model: &ModelTable,

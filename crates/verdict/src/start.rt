@@ -12,7 +12,7 @@ use machine::{start_given, tasks_of};
 use model_table::ModelTable;
 use zone_table::{bounds_start, home_at};
 
-// It holds, or it fails by kind 4 or 5. All variables of the start are 0, so its matrix is.
+// It holds, or zone 1 is elsewhere, or its bounds are broken. All variables of the start are 0, so its matrix is.
 pub(crate) fn try_start(model: &ModelTable, zones: &[u32]) -> Option<Found>
     requires { reader.Given (model_of model.now) zones.now }
     ensures { Judged (model_of model.now) (table.decode zones.now) starts result }

@@ -4,7 +4,7 @@
 
 ghost use Rattle.io.specs.Counts.{IsPrefixLen};
 
-use files::{print_line, read_file};
+use files::read_file;
 use std::rt::{Env, Files};
 use std::{io, str};
 
@@ -16,6 +16,18 @@ fn read_named<R: Files>(rt: &R, name: &[u8], room: &mut [u8]) -> usize
         Ok(path) => read_file(rt, path, room),
         Err(_) => 0,
     }
+}
+
+// The line of the check of two texts, and a line feed. No line is longer than the buffer. zonecheck and replay have
+// these lines too.
+fn print_line(rt: &impl Print, model: &[u8], zones: &[u8]) -> io::Result<()> {
+    let mut buffer = [0u8; 569];
+    let told = console::check_texts(model, zones);
+    if let Ok(n) = console::line(told, &mut buffer) {
+        rt.write_all(&buffer[..n])?;
+        rt.write_all(b"\n")?;
+    }
+    Ok(())
 }
 
 // The two files' line, behind the name of the zones' file.

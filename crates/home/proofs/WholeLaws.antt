@@ -5,11 +5,14 @@ use mathlib.Core.Path.{◌≡◌, refl, sym, ◌∙◌, ap}
 use mathlib.Core.Bool.{Bool, true, ◌&&◌}
 use mathlib.Core.Logic.{◌↔◌}
 use mathlib.Core.List.{List, [], ◌∷◌}
+use native.Mathlib.Numerals.{add-one}
 use native.Mathlib.Omega.{arith}
 use lib.Dec.{ltb, leb, eqb}
 use lib.ListN.{length, get_or, take, drop}
-use lib.Seq.{get_or-drop}
+use lib.Seq.{drop-cons, get_or-drop}
 use borrow.Author.Tests.{eqb-true, eq-eqb, leb-true, le-leb, ltb-true, lt-ltb}
+use Rattle.std.specs.List.{list_all, range_with_len}
+use Rattle.std.proofs.lemmas.List.{drop_all}
 use Rattle.meaning.specs.Model.{Model}
 use Rattle.meaning.specs.Zones.Proper.{fits}
 use Rattle.meaning.specs.Text.RightModel.{Each}
@@ -41,6 +44,13 @@ zeros_read (x ∷ l) e (suc i) = zeros_read l (and_right (eqb x 0) (all_zero l) 
 zeros_make : (l : List ℕ) → ((i : ℕ) → get_or l i 0 ≡ 0) → all_zero l ≡ true
 zeros_make [] h = refl
 zeros_make (x ∷ l) h = and_both (eqb x 0) (all_zero l) (eq-eqb x 0 (h 0)) (zeros_make l (λ i. h (suc i)))
+
+-- each cell from a on is 0: nothing else stands there
+pub zeros_between : (ts : List ℕ) (a n : ℕ) → a + n ≡ length ts → list_all (λ (k : ℕ). eqb (get_or ts k 0) 0) (range_with_len a n) ≡ all_zero (drop a ts)
+zeros_between ts a zero e = ap all_zero (sym (drop_all a ts (omega arith)))
+zeros_between ts a (suc n) e =
+    let d : drop a ts ≡ get_or ts a 0 ∷ drop (a + 1) ts = drop-cons ts a 0 (omega arith) ∙ ap (λ (j : ℕ). get_or ts a 0 ∷ drop j ts) (sym (add-one a)) in
+    rw d (ap (λ (b : Bool). eqb (get_or ts a 0) 0 && b) (zeros_between ts (a + 1) n (omega arith)))
 
 unused_read : (ts : List ℕ) (n : ℕ) → all_zero (drop n ts) ≡ true → (k : ℕ) → n ≤ k → get_or ts k 0 ≡ 0
 unused_read ts n e k h =

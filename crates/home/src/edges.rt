@@ -9,11 +9,12 @@ ghost use Rattle.home.specs.ByCell.{Named};
 use crate::Releases;
 use model_table::ModelTable;
 
-// Is there an edge with this number?
+// Is there an edge with this number? One that is there leaves a location, and these are numbered from 1: so no edge is counted.
+#[tactic(auto, using(model_table::proofs::PartLaws::edge_from, model_table::proofs::PartLaws::edge_from_no))]
 fn is_edge(model: &ModelTable, edge: u32) -> bool
     ensures { Named model.now.cells.now edge result }
 {
-    0 < edge && edge <= model_table::edges(model.cells)
+    0 < model_table::from(model.cells, edge)
 }
 
 // Does the edge leave the location?

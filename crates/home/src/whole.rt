@@ -1,11 +1,11 @@
 // A location with a queue order as it is lent: of the model, and unused cells 0; and whether two are one.
-ghost use Rattle.std.specs.Prelude.{◌≡◌, ◌↔◌, true, ◌≤◌, length};
+ghost use Rattle.std.specs.Prelude.{◌≡◌, ◌↔◌, true, ◌≤◌, length, drop};
 ghost use Rattle.model_table.specs.Held.{model_of};
 ghost use Rattle.home.specs.Stands.{home_of, RightHome};
 ghost use Rattle.home.specs.ByCell.{all_of, all_zero, RightCells};
 
-use crate::Home;
 use crate::queue::fits;
+use crate::{Home, Tasks};
 use model_table::ModelTable;
 
 // Is each task of the queue order one of the model?
@@ -17,11 +17,12 @@ fn are_known(model: &ModelTable, tasks: &[u32]) -> bool
     tasks.iter().all(|task| 0 < *task && *task <= known)
 }
 
-// Are the cells behind the queue order 0?
-fn unused(cells: &[u32]) -> bool
-    ensures { result ≡ all_zero cells.now }
+// Are the cells behind the first n 0?
+fn unused(tasks: Tasks, n: usize) -> bool
+    requires { n ≤ 6 }
+    ensures { result ≡ all_zero (drop n tasks) }
 {
-    cells.iter().all(|cell| *cell == 0)
+    (n..6).all(|k| tasks[k] == 0)
 }
 
 // Is the queue order of tasks of the model, fit to be a queue, and unused cells 0?
@@ -29,8 +30,8 @@ fn is_order(model: &ModelTable, home: Home) -> bool
     requires count_bound { home.count ≤ 6 }
     ensures { (result ≡ true) ↔ RightCells (model_of model.now) home.tasks home.count }
 {
-    let (order, rest) = home.tasks.split_at(home.count as usize);
-    are_known(model, order) && fits(model, order) && unused(rest)
+    let order = home.order();
+    are_known(model, order) && fits(model, order) && unused(home.tasks, home.count as usize)
 }
 
 // Are the location and the queue order of the model, and unused cells 0?

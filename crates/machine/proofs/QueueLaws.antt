@@ -1,11 +1,10 @@
 -- Laws of the queue: its cells, the queue after a tick, and the queue with a new job.
 -- Assumes nothing.
-use Prim.Native.Nat.{ℕ, zero, suc, ◌+◌, ◌-◌, ◌≤◌, ◌<◌}
+use Prim.Native.Nat.{ℕ, zero, suc, ◌-◌, ◌≤◌, ◌<◌}
 use mathlib.Core.Path.{◌≡◌, refl, sym, ◌∙◌, ap, ap₂}
 use mathlib.Core.Bool.{true, false}
 use mathlib.Core.List.{List, [], ◌∷◌, ◌++◌, map}
 use native.Mathlib.Omega.{arith}
-use native.Mathlib.Numerals.{add-one}
 use lib.ListN.{length, get_or, take, drop, set, replicate, length-map, get_or-map}
 use lib.Seq.{ext_get_or, get_or-take, length-take-le}
 use Rattle.meaning.specs.Lists.{insert_at}
@@ -14,7 +13,7 @@ use Rattle.meaning.specs.Machine.State.{order}
 use Rattle.meaning.specs.Machine.Tick.{older, served}
 use Rattle.meaning.proofs.Lists.{length_insert_at}
 use Rattle.machine.specs.Stands.{job_of, cell_of, task_of, queue_of, no_job, padded, cells_of}
-use Rattle.machine.specs.ByCell.{Young, older_cell}
+use Rattle.machine.specs.ByCell.{older_cell, worked_cell}
 use Rattle.machine.specs.Queues.{standing, Holds}
 use Rattle.machine.specs.declared.Job.{Job}
 use Rattle.machine.specs.declared.queue.Queue.{Queue}
@@ -93,17 +92,10 @@ served_none js r zero h e = e
 served_none js r (suc n) h e = absurd (omega arith)
 
 pub served_on : (js r : List Job) (n : ℕ) → n ≤ length js → 0 < n → r ≡ padded no_job 6 (map older_cell (take n js))
-    → set r 0 (record { task = (get_or r 0 no_job).task; done = (get_or r 0 no_job).done + 1; age = (get_or r 0 no_job).age }) ≡ cells_of (served false (queue_of js n))
+    → set r 0 (worked_cell (get_or js 0 no_job)) ≡ cells_of (served false (queue_of js n))
 served_on js r zero h b e = absurd (omega arith)
 served_on [] r (suc n) h b e = absurd (omega arith)
-served_on (j ∷ js) r (suc n) h b e =
-    rw e
-    (ap₂ (λ (d : ℕ) (l : List Job). record { task = j.task; done = d; age = suc j.age } ∷ padded no_job 5 l) (add-one j.done) (cells_older (take n js)))
-
-pub served_young : (js r : List Job) (n : ℕ) → Young js → 0 < n → r ≡ padded no_job 6 (map older_cell (take n js)) → (get_or r 0 no_job).done ≤ 10000
-served_young js r zero y h e = absurd (omega arith)
-served_young [] r (suc n) y h e = absurd (let l = y.long in omega arith)
-served_young (j ∷ js) r (suc n) y h e = rw e ((y.each 0).done)
+served_on (j ∷ js) r (suc n) h b e = rw e (ap (λ (l : List Job). worked_cell j ∷ padded no_job 5 l) (cells_older (take n js)))
 
 -- ---- the queue with a new job
 

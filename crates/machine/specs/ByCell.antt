@@ -44,6 +44,10 @@ pub record Young (js : List Job) : Type 0 where
 abbrev pub older_cell : Job → Job
 older_cell j = record { task = j.task; done = j.done; age = suc j.age }
 
+-- the head that goes on, with one tick more of work done
+abbrev pub worked_cell : Job → Job
+worked_cell j = record { task = j.task; done = suc j.done; age = suc j.age }
+
 -- a new job of task n has fewer ticks left than the queued job j, by the table; at equality the larger number
 unfoldable pub sooner_in : List ℕ → ℕ → Job → Bool
 sooner_in t n j =

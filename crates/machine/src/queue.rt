@@ -5,7 +5,7 @@ ghost use Rattle.meaning.specs.Machine.Place.{place_from, place_of};
 ghost use Rattle.meaning.specs.Machine.Release.{put, put_all};
 ghost use Rattle.model_table.specs.Held.{model_of};
 ghost use Rattle.machine.specs.Stands.{job_of, task_of, no_job, padded, cells_of};
-ghost use Rattle.machine.specs.ByCell.{sooner_in, shorter_in, beats_in, YoungJob, Young, older_cell};
+ghost use Rattle.machine.specs.ByCell.{sooner_in, shorter_in, beats_in, YoungJob, Young, older_cell, worked_cell};
 
 use super::{JOBS, Job, Jobs};
 use home::Tasks;
@@ -66,7 +66,7 @@ impl Queue {
             };
         }
         if 0 < self.count {
-            jobs[0].done += 1;
+            jobs[0] = worked(self.jobs[0]);
         }
         Queue {
             jobs,
@@ -131,6 +131,18 @@ fn older(job: Job) -> Job
         task: job.task,
         done: job.done,
         age: job.age + 1, // kept on: only a new job starts at 0
+    }
+}
+
+// The head that goes on: one tick older, and with one tick more of work done.
+fn worked(job: Job) -> Job
+    requires { YoungJob job }
+    ensures { result ≡ worked_cell job }
+{
+    Job {
+        task: job.task,
+        done: job.done + 1,
+        age: job.age + 1,
     }
 }
 

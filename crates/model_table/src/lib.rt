@@ -108,13 +108,21 @@ pub fn bound_cell(model: &[u32], edge: u32, i: u32, j: u32) -> u32
     }
 }
 
-// c of the bound of i minus j in an edge's guard, if there is one; what is kept is never above 20,001 in a table that is right.
+// c itself, from a cell that has something in it.
 #[tactic(auto, using(crate::proofs::SignedLaws::kept_lowered))]
+pub fn signed(kept: u32) -> i32
+    requires { (0 < kept) × (kept ≤ 20001) }
+    ensures { result ≡ lowered (kept - 1) }
+{
+    kept as i32 - 10001
+}
+
+// c of the bound of i minus j in an edge's guard, if there is one; what is kept is never above 20,001 in a table that is right.
 pub fn bound(model: &[u32], edge: u32, i: u32, j: u32) -> Option<i32>
     ensures { let kept = bound_in model.now edge i j in MatchOption result ((kept ≡ 0) ⊎ (20001 < kept)) (λ c. (0 < kept) × (kept ≤ 20001) × (c ≡ lowered (kept - 1))) }
 {
     match bound_cell(model, edge, i, j) {
-        kept @ 1..=20001 => Some(kept as i32 - 10001),
+        kept @ 1..=20001 => Some(signed(kept)),
         _ => None,
     }
 }

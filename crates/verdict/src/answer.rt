@@ -1,5 +1,15 @@
 // The answer of the check.
+ghost use Rattle.std.specs.Prelude.{◌≡◌};
+ghost use Rattle.machine.specs.Promise.{no_state};
+
 use machine::State;
+
+// A state of nothing.
+pub fn no_state() -> State
+    ensures { result ≡ no_state }
+{
+    State::NONE
+}
 
 // The kind by which an obligation fails: a miss with its position, an overflow, a claim of 0, a claimed
 // zone elsewhere, or a broken bound by its two variables.

@@ -13,7 +13,7 @@ mod kinds;
 mod start;
 mod trying;
 
-pub use answer::{Failure, Fault, Verdict};
+pub use answer::{Failure, Fault, Verdict, no_state};
 use answering::check_given;
 use model_table::ModelTable;
 use model_text::is_model;

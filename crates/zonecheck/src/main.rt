@@ -2,8 +2,20 @@
 // read counts as empty.
 #![tactic(auto)]
 
-use files::{print_line, read_file};
+use files::read_file;
 use std::io;
+
+// The line of the check of two texts, and a line feed. No line is longer than the buffer. zonecheck, examples and replay each have
+// these lines: nothing can be promised of what is printed, so no library has them.
+fn print_line(rt: &impl Print, model: &[u8], zones: &[u8]) -> io::Result<()> {
+    let mut buffer = [0u8; 569];
+    let told = console::check_texts(model, zones);
+    if let Ok(n) = console::line(told, &mut buffer) {
+        rt.write_all(&buffer[..n])?;
+        rt.write_all(b"\n")?;
+    }
+    Ok(())
+}
 
 fn main(rt: HostRuntime) -> io::Result<()> {
     let mut model = [0u8; 65536];

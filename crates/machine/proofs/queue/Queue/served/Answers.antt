@@ -4,12 +4,12 @@ use mathlib.Core.Path.{sym, ◌∙◌, ap}
 use mathlib.Core.Bool.{Bool}
 use mathlib.Core.List.{List, [], ◌∷◌, ◌++◌}
 use native.Mathlib.Omega.{arith}
-use lib.ListN.{length, drop}
+use lib.ListN.{length, drop, set}
 use Rattle.meaning.specs.Machine.Tick.{served}
 use Rattle.machine.specs.Stands.{no_job, cells_of}
 use Rattle.machine.specs.Queues.{standing}
 use Rattle.machine.specs.declared.Job.{Job}
-use Rattle.machine.proofs.QueueLaws.{queue_length, length_left, length_on, served_left, served_none, served_on, served_young}
+use Rattle.machine.proofs.QueueLaws.{queue_length, length_left, length_on, served_left, served_none, served_on}
 use Rattle.machine.proofs.queue.Queue.served.Goals as goal
 use Rattle.machine.proofs.queue.Queue.served.Goals.{then-self-gt0, else-self-gt0}
 
@@ -26,11 +26,6 @@ returns-then-finishes c =
           ∙ ap (λ (b : Bool). length (served b (standing q))) (sym c.if-finishes.true);
     }
 
-pub overflow_add-jobs : goal.overflow_add-jobs
-overflow_add-jobs c =
-    let q = c.args.self in
-    record { fits = omega (arith, served_young q.jobs c.aged-jobs.result q.count c.requires c.if-self-gt0.true c.aged-jobs.ensures) }
-
 pub returns : goal.returns
 returns c =
     let q = c.args.self in
@@ -38,7 +33,7 @@ returns c =
     record {
       jobs =
           elim c.if-self-gt0.branch [
-            | then-self-gt0 w ↦ w.jobs-is ∙ served_on q.jobs c.aged-jobs.result q.count (omega (arith, q.few)) w.if-self-gt0.true c.aged-jobs.ensures
+            | then-self-gt0 w ↦ w.jobs-is ∙ ap (set c.aged-jobs.result 0) w.worked.ensures ∙ served_on q.jobs c.aged-jobs.result q.count (omega (arith, q.few)) w.if-self-gt0.true c.aged-jobs.ensures
             | else-self-gt0 w ↦ w.jobs-is ∙ served_none q.jobs c.aged-jobs.result q.count w.if-self-gt0.false c.aged-jobs.ensures
           ]
           ∙ ap (λ (b : Bool). cells_of (served b (standing q))) (sym c.if-finishes.false);

@@ -8,14 +8,14 @@ ghost use Rattle.model_table.specs.Parts.{limit_in, limits_of, bound_in, guard_o
 ghost use Rattle.machine.specs.Stands.{clock_most, padded};
 ghost use Rattle.machine.specs.ByCell.{limit_met, bound_met, UpToEnd};
 
-use super::{CLOCK_MOST, CLOCKS, Clocks};
+use super::{CLOCKS, Clocks};
 use model_table::ModelTable;
 
-// Is none of these clocks above the end?
-pub(crate) fn within_end(clocks: &[u32]) -> bool
-    ensures { result ≡ list_all (λ (c : ℕ). leb c clock_most) clocks.now }
+// Is none of these clocks above this end?
+pub(crate) fn within_end(clocks: &[u32], end: u32) -> bool
+    ensures { result ≡ list_all (λ (c : ℕ). leb c end) clocks.now }
 {
-    clocks.iter().all(|&clock| clock <= CLOCK_MOST)
+    clocks.iter().all(|&clock| clock <= end)
 }
 
 // The clocks after a tick: each of the first n grows by 1. `UpToEnd` stays a clause, here and below: a state has its clocks in a plain array.

@@ -11,7 +11,7 @@ ghost use Rattle.machine.specs.ByCell.{clocks_right, timely, unused, jobs_right,
 
 use super::clocks::within_end;
 use super::queue::{Queue, tasks_of};
-use super::{Clocks, JOBS, Job, State};
+use super::{CLOCK_MOST, Clocks, JOBS, Job, State};
 use model_table::ModelTable;
 
 // Is each of these clocks 0?
@@ -26,7 +26,7 @@ fn clocks_right(clocks: Clocks, n: usize) -> bool
     requires { n ≤ 4 }
     ensures { result ≡ clocks_right clocks n }
 {
-    within_end(&clocks[..n]) && all_zero(&clocks[n..])
+    within_end(&clocks[..n], CLOCK_MOST) && all_zero(&clocks[n..])
 }
 
 // Has the job work and time left?

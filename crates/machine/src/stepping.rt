@@ -10,7 +10,7 @@ ghost use Rattle.machine.specs.BySteps.{moved_said};
 
 use super::clocks::{grow, guard_holds, limits_met, reset, within_end};
 use super::queue::{Queue, tasks_of};
-use super::{CLOCKS, Clocks, JOBS, Job, Outcome, Reply, State};
+use super::{CLOCK_MOST, CLOCKS, Clocks, JOBS, Job, Outcome, Reply, State};
 use model_table::ModelTable;
 use refusals::Reason;
 
@@ -66,7 +66,7 @@ pub(crate) fn tick_given(model: &ModelTable, state: State) -> Reply
     if !limits_met(model.cells, state.location, grown) {
         return refused(state, Reason::NotAllowed);
     }
-    if !within_end(&grown) {
+    if !within_end(&grown, CLOCK_MOST) {
         return refused(state, Reason::ClockEnd);
     }
     ticked(model, state, grown)

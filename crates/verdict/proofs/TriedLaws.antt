@@ -19,7 +19,7 @@ use Rattle.meaning.specs.Text.ProposalReader as reader
 use Rattle.meaning.specs.Text.ProposalTable as table
 use Rattle.meaning.proofs.Lists.{mem_at}
 use Rattle.zone_table.specs.Sound.{zones_in}
-use Rattle.zone_table.proofs.ZoneParts.{given_is_sound, zone_is}
+use Rattle.zone_table.proofs.ZoneParts.{zone_is}
 use Rattle.verdict.specs.declared.answer.Found.{Found}
 use Rattle.verdict.specs.declared.answer.Failure.{Failure}
 use Rattle.verdict.specs.declared.answer.Verdict.TheVariants.{Accepted, Failed}
@@ -120,8 +120,8 @@ module _ (m : Model) (p : Proposal) where
             w (i - tried) (omega arith) o (sym (stands (i - tried) (omega arith) (omega arith)) ∙ ap (nth1 (obligations m p)) g ∙ e)
 
     -- its obligations hold
-    pub tried_next : (r : ℕ) → AllHold m p k z tried r → TriedTo m p k r
-    tried_next r w = record {
+    pub tried_next : (r more : ℕ) → AllHold m p k z r → more ≡ tried + r → TriedTo m p k more
+    tried_next r more w e = record {
       count = omega (arith, w.number, h.count, upto_next m p (k - 1) z there) ∙ ap (up_to_zone m p) next;
       hold = λ i l. hold_to (length (steps m z)) (omega arith) (λ x b. w.hold x) i (omega (arith, w.number));
     }
@@ -152,12 +152,6 @@ module _ (m : Model) (v : RightModel m) (u : List ℕ) (g : reader.Given m u) wh
   abbrev p : Proposal
   p = table.decode u
 
-  -- a zone has no more steps than the pool has claims
-  steps_few : (n : ℕ) → 1 ≤ n → n ≤ zones_in u → length (steps m (table.zone_in u (n - 1))) ≤ 32767
-  steps_few n a b =
-      let c = ((given_is_sound m v u g).zones (n - 1) (omega arith)).claims in
-      omega (arith, c.many, c.most)
-
   answered_fails : (r : Failure) → FailsBy m p r → AnsweredBy m p (Failed r)
   answered_fails r h = record { answer = A.failed h.failure; right = h.fails; says = h.says }
 
@@ -174,13 +168,13 @@ module _ (m : Model) (v : RightModel m) (u : List ℕ) (g : reader.Given m u) wh
     answered_zone r w = answered_fails r (tried_fails m p k low (table.zone_in u (k - 1)) zone tried h r w)
 
     -- where they hold, one zone more is tried, and the number stays small
-    pub zone_tried : (r : ℕ) → AllHold m p k (table.zone_in u (k - 1)) tried r → tried ≤ 1 + 32767 * (k - 1)
-        → record { few : r ≤ 1 + 32767 * (k + 1 - 1); tried : TriedTo m p (k + 1 - 1) r }
-    zone_tried r w b =
+    pub zone_tried : (r next : ℕ) → AllHold m p k (table.zone_in u (k - 1)) r → next ≡ tried + r → tried ≤ 1 + 32767 * (k - 1)
+        → record { few : next ≤ 1 + 32767 * (k + 1 - 1); tried : TriedTo m p (k + 1 - 1) next }
+    zone_tried r next w e b =
         let more : k ≡ k + 1 - 1 = omega arith in
         record {
-          few = omega (arith, w.number, steps_few k low high);
-          tried = subst (λ (i : ℕ). TriedTo m p i r) more (tried_next m p k low (table.zone_in u (k - 1)) zone tried h r w);
+          few = omega (arith, w.few);
+          tried = subst (λ (i : ℕ). TriedTo m p i next) more (tried_next m p k low (table.zone_in u (k - 1)) zone tried h r next w e);
         }
 
   -- the answer where all are tried

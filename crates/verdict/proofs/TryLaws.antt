@@ -61,8 +61,9 @@ module _ (m : Model) (p : Proposal) (n : ℕ) (z : Zone) where
         record { obligation = w.0; here = w.1; hold = h; number = e; zone = refl; fails = j w.0 w.1 }
 
     -- none fails
-    pub tried_all : x ≡ length (steps m z) + 1 → (before number : ℕ) → number + 1 ≡ before + x → AllHold m p n z before number
-    tried_all l before number e = record {
+    pub tried_all : x ≡ length (steps m z) + 1 → (number : ℕ) → number + 1 ≡ x → number ≤ 32767 → AllHold m p n z number
+    tried_all l number e f = record {
       hold = λ i o w. h i (let q = place_few i o w in omega arith) o w;
       number = omega arith;
+      few = f;
     }

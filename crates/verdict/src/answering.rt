@@ -38,7 +38,8 @@ fn try_all(model: &ModelTable, zones: &[u32]) -> Result<u32, Failure>
     let many = zones_in(zones);
     let mut tried = 1;
     for n in 1..=many {
-        tried = try_zone(model, zones, n, tried)?;
+        let own = try_zone(model, zones, n, tried)?;
+        tried += own;
     }
     Ok(tried)
 }

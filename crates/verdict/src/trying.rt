@@ -36,8 +36,8 @@ fn try_place(
     judge(model, zones, home, closed, step, claimed)
 }
 
-// All of them, up to the first that fails. `before` obligations were tried before these. The zone's matrix
-// is closed once for all its steps; a zone without a state has none, and goes the same way.
+// All of them, up to the first that fails: how many they are. `before` obligations were tried before these. The
+// zone's matrix is closed once for all its steps; a zone without a state has none, and goes the same way.
 pub(crate) fn try_zone(
     model: &ModelTable,
     zones: &[u32],
@@ -52,11 +52,11 @@ pub(crate) fn try_zone(
     let home = zone.home;
     let bounds = zone.bounds;
     let closed = zone_matrix(model, home, bounds);
-    let mut number = before;
+    let mut number = 0;
     for x in 1..=claims(zones, n) {
         number += 1;
         if let Some(found) = try_place(model, zones, n, home, closed, x) {
-            return Err(found.of(number, n, x));
+            return Err(found.of(before + number, n, x));
         }
     }
     Ok(number)

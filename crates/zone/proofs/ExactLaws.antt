@@ -49,8 +49,8 @@ module _ (cs : List ℕ) (h : length cs ≤ 4) where
 
 -- ---- nothing to begin with
 
-pub empty_made : Empty (replicate 289 no_bound)
-empty_made = record { long = refl; none = λ k h. get_or-replicate 289 k no_bound (pos 0) h }
+pub empty_made : (b : List ℤ) → b ≡ replicate 289 no_bound → Empty b
+empty_made b e = subst Empty (sym e) (record { long = refl; none = λ k h. get_or-replicate 289 k no_bound (pos 0) h })
 
 -- ---- the jobs
 

@@ -1,4 +1,4 @@
--- What the inner functions say of single entries: for their contracts, not for a reader to believe.
+-- What the inner functions say of single entries: for their contracts and proofs, not for a reader to believe.
 -- Assumes nothing.
 use Rattle.std.specs.Prelude.{ℕ, ◌+◌, ◌*◌, ◌≤◌, ◌<◌, ◌/◌, ◌%◌, ◌≡◌, true, ◌⊎◌, ℤ, length, get_or}
 use mathlib.Core.List.{List, [], map, Memᴰ}

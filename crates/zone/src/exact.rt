@@ -1,15 +1,15 @@
 // The bounds of exactly one state: both bounds of each clock and age against 0, and of each running sum against the one ahead.
-ghost use Rattle.std.specs.Prelude.{◌≡◌, ◌+◌, ◌*◌, ◌≤◌, ◌<◌, pos, neg_ℤ, length, set};
-ghost use Rattle.zone.specs.ByCell.{Empty, ClocksWritten, JobsWritten, SmallClocks, SmallJobs};
+ghost use Rattle.std.specs.Prelude.{◌≡◌, ◌+◌, ◌*◌, ◌≤◌, ◌<◌, pos, neg_ℤ, length, replicate, set};
+ghost use Rattle.zone.specs.ByCell.{ClocksWritten, JobsWritten, SmallClocks, SmallJobs};
 
 use crate::Zone;
 use machine::Job;
 
-// No bounds.
-pub(crate) fn no_bounds() -> [i32; 289]
-    ensures { Empty result }
+// The entries of a zone, each this one.
+pub(crate) fn alike(entry: i32) -> [i32; 289]
+    ensures { result ≡ replicate 289 entry }
 {
-    [Zone::NO_BOUND; 289]
+    [entry; 289]
 }
 
 // "Variable i minus variable j is v", written as both bounds.
@@ -27,7 +27,7 @@ pub(crate) fn of_clocks(clocks: &[u32]) -> [i32; 289]
     requires { (length clocks.now ≤ 4) × SmallClocks clocks.now }
     ensures { ClocksWritten clocks.now result }
 {
-    let mut r = no_bounds();
+    let mut r = alike(Zone::NO_BOUND);
     for (k, &clock) in clocks.iter().enumerate() {
         both(&mut r, k + 1, 0, clock);
     }

@@ -6,7 +6,7 @@ ghost use Rattle.zone.specs.Promise.{WidestZone, ExactZone};
 ghost use Rattle.meaning.specs.Model.{Model};
 
 use crate::Zone;
-use crate::exact::{no_bounds, of_clocks, with_jobs};
+use crate::exact::{alike, of_clocks, with_jobs};
 use home::Home;
 use machine::{State, tasks_of};
 use model_table::ModelTable;
@@ -17,7 +17,7 @@ pub(crate) fn widest_zone(home: Home) -> Zone
 {
     Zone {
         home,
-        bounds: no_bounds(),
+        bounds: alike(Zone::NO_BOUND),
     }
 }
 

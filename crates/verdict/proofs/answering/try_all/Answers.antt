@@ -21,20 +21,20 @@ returns-in-Some c =
 pub loop-n-init : goal.loop-n-init
 loop-n-init c = record { few = omega arith; tried = tried_first (model_of c.args.model.now) (table.decode c.args.zones.now) c.in_default.ensures }
 
-pub returns-in_err-tried : goal.returns-in_err-tried
-returns-in_err-tried c =
+pub returns-in_err-own : goal.returns-in_err-own
+returns-in_err-own c =
     let p = err_from_is_err_and c.from_residual.result c.from_residual.ensures.1 in
     rw (p.1, p.2)
     (answered_zone (model_of c.args.model.now) c.args.model.now.right.right c.args.zones.now c.requires c.loop-n.n (omega arith) (omega (arith, c.zones-many.ensures.0)) c.loop-n.tried
-    c.loop-n.invariant.tried _ c.in_err-tried.ensures)
+    c.loop-n.invariant.tried _ c.in_err-own.ensures)
 
 pub loop-n-preserved : goal.loop-n-preserved
 loop-n-preserved c =
     zone_tried (model_of c.args.model.now) c.args.model.now.right.right c.args.zones.now c.requires c.loop-n.n (omega arith) (omega (arith, c.zones-many.ensures.0)) c.loop-n.tried
-    c.loop-n.invariant.tried c.in_ok-tried.tried c.in_ok-tried.ensures c.loop-n.invariant.few
+    c.loop-n.invariant.tried c.in_ok-own.own _ c.in_ok-own.ensures (omega arith) c.loop-n.invariant.few
 
-pub returns-in_ok-tried : goal.returns-in_ok-tried
-returns-in_ok-tried c =
-    let r = zone_tried (model_of c.args.model.now) c.args.model.now.right.right c.args.zones.now c.requires c.loop-n.n (omega arith) (omega (arith, c.zones-many.ensures.0)) c.loop-n.tried
-    c.loop-n.invariant.tried c.in_ok-tried.tried c.in_ok-tried.ensures c.loop-n.invariant.few in
-    answered_all (model_of c.args.model.now) c.args.model.now.right.right c.args.zones.now c.requires (c.loop-n.n + 1 - 1) c.in_ok-tried.tried (omega (arith, c.zones-many.ensures.0)) r.tried
+pub returns-in_ok-own : goal.returns-in_ok-own
+returns-in_ok-own c =
+    answered_all (model_of c.args.model.now) c.args.model.now.right.right c.args.zones.now c.requires (c.loop-n.n + 1 - 1) _ (omega (arith, c.zones-many.ensures.0))
+    (zone_tried (model_of c.args.model.now) c.args.model.now.right.right c.args.zones.now c.requires c.loop-n.n (omega arith) (omega (arith, c.zones-many.ensures.0)) c.loop-n.tried
+    c.loop-n.invariant.tried c.in_ok-own.own _ c.in_ok-own.ensures (omega arith) c.loop-n.invariant.few).tried

@@ -41,6 +41,13 @@ overflow_add-number c =
     let a = c.args in
     let p = c.requires.given in
     let most = claims_most (model_of a.model.now) a.model.now.right.right a.zones.now p.0 a.n p.1 p.2 in
+    omega (arith, c.loop-x.invariant.number, c.loop-x-test.true, c.claims-x-end.ensures)
+
+pub overflow_add-before : goal.overflow_add-before
+overflow_add-before c =
+    let a = c.args in
+    let p = c.requires.given in
+    let most = claims_most (model_of a.model.now) a.model.now.right.right a.zones.now p.0 a.n p.1 p.2 in
     omega (arith, c.loop-x.invariant.number, c.loop-x-test.true, c.claims-x-end.ensures, c.requires.before_bound)
 
 pub try_place-requires : goal.try_place-requires
@@ -59,7 +66,7 @@ returns-in-Some c =
     let many = claims_many m a.model.now.right.right a.zones.now p.0 a.n p.1 p.2 in
     subst (λ (r : Failure). FailsIn m (table.decode a.zones.now) a.n z a.before r) (sym c.of.ensures)
     (tried_fails m (table.decode a.zones.now) a.n z c.loop-x.x c.loop-x.invariant.hold c.in-Some.found c.in-Some.ensures (omega arith)
-    (omega (arith, c.loop-x-test.true, c.claims-x-end.ensures)) a.before (c.loop-x.number + 1) (omega (arith, c.loop-x.invariant.number)))
+    (omega (arith, c.loop-x-test.true, c.claims-x-end.ensures)) a.before _ (omega (arith, c.loop-x.invariant.number)))
 
 pub loop-x-preserved : goal.loop-x-preserved
 loop-x-preserved c =
@@ -75,8 +82,10 @@ returns c =
     let p = c.requires.given in
     let m = model_of a.model.now in
     let many = claims_many m a.model.now.right.right a.zones.now p.0 a.n p.1 p.2 in
+    let most = claims_most m a.model.now.right.right a.zones.now p.0 a.n p.1 p.2 in
     tried_all m (table.decode a.zones.now) a.n (table.zone_in a.zones.now (a.n - 1)) c.loop-x.x c.loop-x.invariant.hold
-    (omega (arith, c.loop-x-test.false, c.claims-x-end.ensures)) a.before c.loop-x.number c.loop-x.invariant.number
+    (omega (arith, c.loop-x-test.false, c.claims-x-end.ensures)) c.loop-x.number c.loop-x.invariant.number
+    (omega (arith, c.loop-x.invariant.number, c.loop-x-test.false, c.claims-x-end.ensures))
 
 pub returns-in_default : goal.returns-in_default
 returns-in_default c =
@@ -85,5 +94,7 @@ returns-in_default c =
     let m = model_of a.model.now in
     let z = table.zone_in a.zones.now (a.n - 1) in
     let many = claims_many m a.model.now.right.right a.zones.now p.0 a.n p.1 p.2 in
+    let most = claims_most m a.model.now.right.right a.zones.now p.0 a.n p.1 p.2 in
     tried_all m (table.decode a.zones.now) a.n z (c.loop-x.x + 1) (tried_on m (table.decode a.zones.now) a.n z c.loop-x.x c.loop-x.invariant.hold c.in_default.ensures)
-    (omega (arith, c.claims-x-end.ensures)) a.before (c.loop-x.number + 1) (omega (arith, c.loop-x.invariant.number))
+    (omega (arith, c.claims-x-end.ensures)) (c.loop-x.number + 1) (omega (arith, c.loop-x.invariant.number))
+    (omega (arith, c.loop-x.invariant.number, c.claims-x-end.ensures))

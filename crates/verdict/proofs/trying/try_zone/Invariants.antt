@@ -8,6 +8,6 @@ use Rattle.verdict.proofs.trying.try_zone.Given as goal
 
 abbrev pub invariant-loop-x : goal.invariant-loop-x
 invariant-loop-x l = record {
-  number : l.number + 1 ≡ l.before + l.x;
+  number : l.number + 1 ≡ l.x;
   hold : HoldBefore (model_of l.model) (table.decode l.zones) l.n (table.zone_in l.zones (l.n - 1)) l.x;
 }

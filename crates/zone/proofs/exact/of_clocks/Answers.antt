@@ -1,11 +1,11 @@
 -- `zone::exact::of_clocks` meets its contract.
 use Rattle.std.proofs.Common.{◌+◌, List, sym, subst, arith}
 use lib.IntN.{ℤ}
-use Rattle.zone.proofs.ExactLaws.{ClocksUpto, clocks_start, clocks_more, clocks_end}
+use Rattle.zone.proofs.ExactLaws.{ClocksUpto, empty_made, clocks_start, clocks_more, clocks_end}
 use Rattle.zone.proofs.exact.of_clocks.Goals as goal
 
 pub loop-k-init : goal.loop-k-init
-loop-k-init c = clocks_start c.args.clocks.now c.requires.0 c.no_bounds-r.result c.no_bounds-r.ensures
+loop-k-init c = clocks_start c.args.clocks.now c.requires.0 _ (empty_made _ c.alike-r.ensures)
 
 pub loop-k-preserved : goal.loop-k-preserved
 loop-k-preserved c =

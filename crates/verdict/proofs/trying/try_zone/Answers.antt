@@ -36,13 +36,6 @@ loop-x-init c =
     let a = c.args in
     record { number = omega arith; hold = tried_none (model_of a.model.now) (table.decode a.zones.now) a.n (table.zone_in a.zones.now (a.n - 1)) }
 
-pub overflow_add-number : goal.overflow_add-number
-overflow_add-number c =
-    let a = c.args in
-    let p = c.requires.given in
-    let most = claims_most (model_of a.model.now) a.model.now.right.right a.zones.now p.0 a.n p.1 p.2 in
-    omega (arith, c.loop-x.invariant.number, c.loop-x-test.true, c.claims-x-end.ensures)
-
 pub overflow_add-before : goal.overflow_add-before
 overflow_add-before c =
     let a = c.args in

@@ -1,11 +1,11 @@
-// What the programs on files share: a file's bytes.
+// For programs on files: a file's bytes, and the printed line of two texts.
 #![tactic(auto)]
 
 ghost use Rattle.io.specs.Counts.{IsPrefixLen};
 
-use std::fs;
 use std::io::Read;
 use std::rt::Files;
+use std::{fs, io};
 
 // The file's bytes into the room until it ends, a read fails or the room is full, and how many. It goes on
 // by as many bytes as a read brought, so it is no loop over a range.
@@ -42,4 +42,16 @@ pub fn read_file<R: Files>(rt: &R, name: &str, room: &mut [u8]) -> usize
     } else {
         0
     }
+}
+
+/// The line of the check of two texts, and a line feed. No line is longer than the buffer. What is written to
+/// standard output stands outside, so no clause says that the line is printed; `console::line` promises its bytes.
+pub fn print_line(rt: &impl Print, model: &[u8], zones: &[u8]) -> io::Result<()> {
+    let mut buffer = [0u8; 569];
+    let told = console::check_texts(model, zones);
+    if let Ok(n) = console::line(told, &mut buffer) {
+        rt.write_all(&buffer[..n])?;
+        rt.write_all(b"\n")?;
+    }
+    Ok(())
 }

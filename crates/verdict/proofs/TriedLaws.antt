@@ -119,12 +119,16 @@ module _ (m : Model) (p : Proposal) where
             let g : tried + (i - tried) ≡ i = omega arith in
             w (i - tried) (omega arith) o (sym (stands (i - tried) (omega arith) (omega arith)) ∙ ap (nth1 (obligations m p)) g ∙ e)
 
-    -- its obligations hold
-    pub tried_next : (r more : ℕ) → AllHold m p k z r → more ≡ tried + r → TriedTo m p k more
-    tried_next r more w e = record {
-      count = omega (arith, w.number, h.count, upto_next m p (k - 1) z there) ∙ ap (up_to_zone m p) next;
-      hold = λ i l. hold_to (length (steps m z)) (omega arith) (λ x b. w.hold x) i (omega (arith, w.number));
+    -- its obligations hold, however many they are
+    pub tried_upto : (r : ℕ) → ((x : ℕ) (o : Obligation) → AtPlace m k z x o → Holds m p o) → r ≡ tried + length (steps m z) → TriedTo m p k r
+    tried_upto r w e = record {
+      count = omega (arith, e, h.count, upto_next m p (k - 1) z there) ∙ ap (up_to_zone m p) next;
+      hold = λ i l. hold_to (length (steps m z)) (omega arith) (λ x b. w x) i (omega (arith, e));
     }
+
+    -- by the zone's own number
+    pub tried_next : (r more : ℕ) → AllHold m p k z r → more ≡ tried + r → TriedTo m p k more
+    tried_next r more w e = tried_upto more w.hold (omega (arith, e, w.number))
 
     -- one of them fails
     pub tried_fails : (r : Failure) → FailsIn m p k z tried r → FailsBy m p r

@@ -60,10 +60,11 @@ module _ (m : Model) (p : Proposal) (n : ℕ) (z : Zone) where
         let w = place_some x a b in
         record { obligation = w.0; here = w.1; hold = h; number = e; zone = refl; fails = j w.0 w.1 }
 
-    -- none fails
+    -- none fails, however many they are
+    pub all_hold : x ≡ length (steps m z) + 1 → (before r : ℕ) → r + 1 ≡ before + x
+        → record { hold : (i : ℕ) (o : Obligation) → AtPlace m n z i o → Holds m p o; number : r ≡ before + length (steps m z) }
+    all_hold l before r e = record { hold = λ i o w. h i (let q = place_few i o w in omega arith) o w; number = omega arith }
+
+    -- and they are no more than the claims that a proposal may have
     pub tried_all : x ≡ length (steps m z) + 1 → (number : ℕ) → number + 1 ≡ x → number ≤ 32767 → AllHold m p n z number
-    tried_all l number e f = record {
-      hold = λ i o w. h i (let q = place_few i o w in omega arith) o w;
-      number = omega arith;
-      few = f;
-    }
+    tried_all l number e f = let w = all_hold l 0 number (omega arith) in record { hold = w.hold; number = omega (arith, w.number); few = f }

@@ -6,7 +6,7 @@ use files::read_file;
 use std::io;
 
 // The line of the check of two texts, and a line feed. No line is longer than the buffer. zonecheck, examples and replay each have
-// these lines: nothing can be promised of what is printed, so no library has them.
+// these lines, so what a program prints is read in the program; `files::print_line` has them for others.
 fn print_line(rt: &impl Print, model: &[u8], zones: &[u8]) -> io::Result<()> {
     let mut buffer = [0u8; 569];
     let told = console::check_texts(model, zones);

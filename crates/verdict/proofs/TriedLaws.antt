@@ -19,14 +19,14 @@ use Rattle.meaning.specs.Text.ProposalReader as reader
 use Rattle.meaning.specs.Text.ProposalTable as table
 use Rattle.meaning.proofs.Lists.{mem_at}
 use Rattle.zone_table.specs.Sound.{zones_in}
-use Rattle.zone_table.proofs.ZoneParts.{zone_is}
+use Rattle.zone_table.proofs.ZoneParts.{given_is_sound, zone_is}
 use Rattle.verdict.specs.declared.answer.Found.{Found}
 use Rattle.verdict.specs.declared.answer.Failure.{Failure}
 use Rattle.verdict.specs.declared.answer.Verdict.TheVariants.{Accepted, Failed}
 use Rattle.verdict.specs.Answers.{fault_of, SaysFailed}
 use Rattle.verdict.specs.AnsweredBy.{AnsweredBy}
 use Rattle.verdict.specs.Failing.{failing}
-use Rattle.verdict.specs.Judged.{AtPlace, FailsSo, FailsIn, AllHold}
+use Rattle.verdict.specs.Judged.{AtPlace, FailsSo, FailsIn, AllHold, OwnHold}
 use Rattle.verdict.proofs.FoundLaws.{none_some}
 use Rattle.verdict.proofs.CountLaws.{nth_inside, claimed_named, up_to_zone, upto_next, zone_stands}
 use Rattle.verdict.proofs.TryLaws.{place_few}
@@ -56,6 +56,10 @@ module _ (m : Model) (n : ℕ) (z : Zone) where
       (r.0, omega (arith, r.1))
 
 -- ---- from zone to zone
+
+-- a zone's own number, behind `before` others
+pub own_on : (m : Model) (p : Proposal) (n : ℕ) (z : Zone) (r before more : ℕ) → OwnHold m p n z r → more ≡ before + r → AllHold m p n z before more
+own_on m p n z r before more w e = record { hold = w.hold; number = omega (arith, w.number, e) }
 
 module _ (m : Model) (p : Proposal) where
   -- obligation 1 holds
@@ -119,16 +123,16 @@ module _ (m : Model) (p : Proposal) where
             let g : tried + (i - tried) ≡ i = omega arith in
             w (i - tried) (omega arith) o (sym (stands (i - tried) (omega arith) (omega arith)) ∙ ap (nth1 (obligations m p)) g ∙ e)
 
-    -- its obligations hold, however many they are
-    pub tried_upto : (r : ℕ) → ((x : ℕ) (o : Obligation) → AtPlace m k z x o → Holds m p o) → r ≡ tried + length (steps m z) → TriedTo m p k r
-    tried_upto r w e = record {
-      count = omega (arith, e, h.count, upto_next m p (k - 1) z there) ∙ ap (up_to_zone m p) next;
-      hold = λ i l. hold_to (length (steps m z)) (omega arith) (λ x b. w x) i (omega (arith, e));
+    -- its obligations hold
+    pub tried_next : (r : ℕ) → AllHold m p k z tried r → TriedTo m p k r
+    tried_next r w = record {
+      count = omega (arith, w.number, h.count, upto_next m p (k - 1) z there) ∙ ap (up_to_zone m p) next;
+      hold = λ i l. hold_to (length (steps m z)) (omega arith) (λ x b. w.hold x) i (omega (arith, w.number));
     }
 
     -- by the zone's own number
-    pub tried_next : (r more : ℕ) → AllHold m p k z r → more ≡ tried + r → TriedTo m p k more
-    tried_next r more w e = tried_upto more w.hold (omega (arith, e, w.number))
+    pub own_next : (r more : ℕ) → OwnHold m p k z r → more ≡ tried + r → TriedTo m p k more
+    own_next r more w e = tried_next more (own_on m p k z r tried more w e)
 
     -- one of them fails
     pub tried_fails : (r : Failure) → FailsIn m p k z tried r → FailsBy m p r
@@ -156,6 +160,12 @@ module _ (m : Model) (v : RightModel m) (u : List ℕ) (g : reader.Given m u) wh
   abbrev p : Proposal
   p = table.decode u
 
+  -- a zone has no more steps than the pool has claims
+  steps_few : (n : ℕ) → 1 ≤ n → n ≤ zones_in u → length (steps m (table.zone_in u (n - 1))) ≤ 32767
+  steps_few n a b =
+      let c = ((given_is_sound m v u g).zones (n - 1) (omega arith)).claims in
+      omega (arith, c.many, c.most)
+
   answered_fails : (r : Failure) → FailsBy m p r → AnsweredBy m p (Failed r)
   answered_fails r h = record { answer = A.failed h.failure; right = h.fails; says = h.says }
 
@@ -172,14 +182,19 @@ module _ (m : Model) (v : RightModel m) (u : List ℕ) (g : reader.Given m u) wh
     answered_zone r w = answered_fails r (tried_fails m p k low (table.zone_in u (k - 1)) zone tried h r w)
 
     -- where they hold, one zone more is tried, and the number stays small
-    pub zone_tried : (r next : ℕ) → AllHold m p k (table.zone_in u (k - 1)) r → next ≡ tried + r → tried ≤ 1 + 32767 * (k - 1)
-        → record { few : next ≤ 1 + 32767 * (k + 1 - 1); tried : TriedTo m p (k + 1 - 1) next }
-    zone_tried r next w e b =
+    pub zone_tried : (r : ℕ) → AllHold m p k (table.zone_in u (k - 1)) tried r → tried ≤ 1 + 32767 * (k - 1)
+        → record { few : r ≤ 1 + 32767 * (k + 1 - 1); tried : TriedTo m p (k + 1 - 1) r }
+    zone_tried r w b =
         let more : k ≡ k + 1 - 1 = omega arith in
         record {
-          few = omega (arith, w.few);
-          tried = subst (λ (i : ℕ). TriedTo m p i next) more (tried_next m p k low (table.zone_in u (k - 1)) zone tried h r next w e);
+          few = omega (arith, w.number, steps_few k low high);
+          tried = subst (λ (i : ℕ). TriedTo m p i r) more (tried_next m p k low (table.zone_in u (k - 1)) zone tried h r w);
         }
+
+    -- by the zone's own number
+    pub zone_own : (r next : ℕ) → OwnHold m p k (table.zone_in u (k - 1)) r → next ≡ tried + r → tried ≤ 1 + 32767 * (k - 1)
+        → record { few : next ≤ 1 + 32767 * (k + 1 - 1); tried : TriedTo m p (k + 1 - 1) next }
+    zone_own r next w e = zone_tried next (own_on m p k (table.zone_in u (k - 1)) r tried next w e)
 
   -- the answer where all are tried
   pub answered_all : (n tried : ℕ) → zones_in u ≤ n → TriedTo m p n tried → AnsweredBy m p (Accepted tried)

@@ -13,7 +13,7 @@ use Rattle.meaning.specs.Zones.Steps.{Step, steps}
 use Rattle.meaning.specs.Check.Obligations.{Obligation, claimed, Holds}
 use Rattle.verdict.specs.declared.answer.Found.{Found}
 use Rattle.verdict.specs.Failing.{failing}
-use Rattle.verdict.specs.Judged.{AtPlace, HoldBefore, FailsSo, FailsIn, AllHold}
+use Rattle.verdict.specs.Judged.{AtPlace, HoldBefore, FailsSo, FailsIn, AllHold, OwnHold}
 use Rattle.verdict.proofs.FoundLaws.{none_some}
 use Rattle.verdict.proofs.CountLaws.{nth_inside, claimed_length}
 
@@ -60,11 +60,13 @@ module _ (m : Model) (p : Proposal) (n : ℕ) (z : Zone) where
         let w = place_some x a b in
         record { obligation = w.0; here = w.1; hold = h; number = e; zone = refl; fails = j w.0 w.1 }
 
-    -- none fails, however many they are
-    pub all_hold : x ≡ length (steps m z) + 1 → (before r : ℕ) → r + 1 ≡ before + x
-        → record { hold : (i : ℕ) (o : Obligation) → AtPlace m n z i o → Holds m p o; number : r ≡ before + length (steps m z) }
-    all_hold l before r e = record { hold = λ i o w. h i (let q = place_few i o w in omega arith) o w; number = omega arith }
+    -- none fails
+    pub tried_all : x ≡ length (steps m z) + 1 → (before number : ℕ) → number + 1 ≡ before + x → AllHold m p n z before number
+    tried_all l before number e = record {
+      hold = λ i o w. h i (let q = place_few i o w in omega arith) o w;
+      number = omega arith;
+    }
 
-    -- and they are no more than the claims that a proposal may have
-    pub tried_all : x ≡ length (steps m z) + 1 → (number : ℕ) → number + 1 ≡ x → number ≤ 32767 → AllHold m p n z number
-    tried_all l number e f = let w = all_hold l 0 number (omega arith) in record { hold = w.hold; number = omega (arith, w.number); few = f }
+    -- by the zone's own number
+    pub own_all : x ≡ length (steps m z) + 1 → (number : ℕ) → number + 1 ≡ x → number ≤ 32767 → OwnHold m p n z number
+    own_all l number e f = let w = tried_all l 0 number (omega arith) in record { hold = w.hold; number = omega (arith, w.number); few = f }

@@ -63,13 +63,18 @@ pub record FailsIn (m : Model) (p : Proposal) (n : ℕ) (z : Zone) (before : ℕ
   pub zone : r.zone ≡ n
   pub fails : FailsSo m p obligation (record { fault = r.fault; state = r.state })
 
+-- all obligations of zone n hold, and r are tried then, `before` others before them
+pub record AllHold (m : Model) (p : Proposal) (n : ℕ) (z : Zone) (before r : ℕ) : Type 0 where
+  pub hold : (x : ℕ) (o : Obligation) → AtPlace m n z x o → Holds m p o
+  pub number : r ≡ before + length (steps m z)
+
 -- all obligations of zone n hold, and they are r, no more than the claims that a proposal may have
-pub record AllHold (m : Model) (p : Proposal) (n : ℕ) (z : Zone) (r : ℕ) : Type 0 where
+pub record OwnHold (m : Model) (p : Proposal) (n : ℕ) (z : Zone) (r : ℕ) : Type 0 where
   pub hold : (x : ℕ) (o : Obligation) → AtPlace m n z x o → Holds m p o
   pub number : r ≡ length (steps m z)
   pub few : r ≤ 32767
 
 -- r says of the obligations of zone n, `before` others before them, that all hold and how many they are; or the first that fails
 abbrev pub ZoneTried : Model → Proposal → ℕ → Zone → ℕ → Result ℕ Failure → Type 0
-ZoneTried m p n z before (Ok r) = AllHold m p n z r
+ZoneTried m p n z before (Ok r) = OwnHold m p n z r
 ZoneTried m p n z before (Err r) = FailsIn m p n z before r

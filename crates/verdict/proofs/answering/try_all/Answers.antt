@@ -8,7 +8,7 @@ use Rattle.meaning.specs.Text.ProposalTable as table
 use Rattle.verdict.specs.declared.answer.Failure.{Failure}
 use Rattle.verdict.specs.declared.answer.Verdict.TheVariants.{Failed}
 use Rattle.verdict.specs.AnsweredBy.{AnsweredBy}
-use Rattle.verdict.proofs.TriedLaws.{tried_first, answered_start, answered_zone, zone_tried, answered_all}
+use Rattle.verdict.proofs.TriedLaws.{tried_first, answered_start, answered_zone, zone_own, answered_all}
 use Rattle.verdict.proofs.answering.try_all.Goals as goal
 
 pub returns-in-Some : goal.returns-in-Some
@@ -30,11 +30,11 @@ returns-in_err-own c =
 
 pub loop-n-preserved : goal.loop-n-preserved
 loop-n-preserved c =
-    zone_tried (model_of c.args.model.now) c.args.model.now.right.right c.args.zones.now c.requires c.loop-n.n (omega arith) (omega (arith, c.zones-many.ensures.0)) c.loop-n.tried
+    zone_own (model_of c.args.model.now) c.args.model.now.right.right c.args.zones.now c.requires c.loop-n.n (omega arith) (omega (arith, c.zones-many.ensures.0)) c.loop-n.tried
     c.loop-n.invariant.tried c.in_ok-own.own _ c.in_ok-own.ensures (omega arith) c.loop-n.invariant.few
 
 pub returns-in_ok-own : goal.returns-in_ok-own
 returns-in_ok-own c =
     answered_all (model_of c.args.model.now) c.args.model.now.right.right c.args.zones.now c.requires (c.loop-n.n + 1 - 1) _ (omega (arith, c.zones-many.ensures.0))
-    (zone_tried (model_of c.args.model.now) c.args.model.now.right.right c.args.zones.now c.requires c.loop-n.n (omega arith) (omega (arith, c.zones-many.ensures.0)) c.loop-n.tried
+    (zone_own (model_of c.args.model.now) c.args.model.now.right.right c.args.zones.now c.requires c.loop-n.n (omega arith) (omega (arith, c.zones-many.ensures.0)) c.loop-n.tried
     c.loop-n.invariant.tried c.in_ok-own.own _ c.in_ok-own.ensures (omega arith) c.loop-n.invariant.few).tried

@@ -10,7 +10,7 @@ use Rattle.zone_table.proofs.ZoneParts.{given_small, home_right, read_lendable}
 use Rattle.verdict.specs.declared.answer.Failure.{Failure}
 use Rattle.verdict.specs.Judged.{FailsIn}
 use Rattle.verdict.proofs.PlaceLaws.{claims_many, claims_most, read_closed}
-use Rattle.verdict.proofs.TryLaws.{tried_none, tried_on, tried_fails, tried_all}
+use Rattle.verdict.proofs.TryLaws.{tried_none, tried_on, tried_fails, own_all}
 use Rattle.verdict.proofs.trying.try_zone.Goals as goal
 
 pub zone_at-zone-requires : goal.zone_at-zone-requires
@@ -76,7 +76,7 @@ returns c =
     let m = model_of a.model.now in
     let many = claims_many m a.model.now.right.right a.zones.now p.0 a.n p.1 p.2 in
     let most = claims_most m a.model.now.right.right a.zones.now p.0 a.n p.1 p.2 in
-    tried_all m (table.decode a.zones.now) a.n (table.zone_in a.zones.now (a.n - 1)) c.loop-x.x c.loop-x.invariant.hold
+    own_all m (table.decode a.zones.now) a.n (table.zone_in a.zones.now (a.n - 1)) c.loop-x.x c.loop-x.invariant.hold
     (omega (arith, c.loop-x-test.false, c.claims-x-end.ensures)) c.loop-x.number c.loop-x.invariant.number
     (omega (arith, c.loop-x.invariant.number, c.loop-x-test.false, c.claims-x-end.ensures))
 
@@ -88,6 +88,6 @@ returns-in_default c =
     let z = table.zone_in a.zones.now (a.n - 1) in
     let many = claims_many m a.model.now.right.right a.zones.now p.0 a.n p.1 p.2 in
     let most = claims_most m a.model.now.right.right a.zones.now p.0 a.n p.1 p.2 in
-    tried_all m (table.decode a.zones.now) a.n z (c.loop-x.x + 1) (tried_on m (table.decode a.zones.now) a.n z c.loop-x.x c.loop-x.invariant.hold c.in_default.ensures)
+    own_all m (table.decode a.zones.now) a.n z (c.loop-x.x + 1) (tried_on m (table.decode a.zones.now) a.n z c.loop-x.x c.loop-x.invariant.hold c.in_default.ensures)
     (omega (arith, c.claims-x-end.ensures)) (c.loop-x.number + 1) (omega (arith, c.loop-x.invariant.number))
     (omega (arith, c.loop-x.invariant.number, c.claims-x-end.ensures))
